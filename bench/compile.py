@@ -1,0 +1,67 @@
+#!/usr/bin/env python3
+"""How `compile` grows: makes STRIPS problems of 10,000 and 100,000 facts, runs the built program on each and
+prints megabytes of input a second, peak memory over the input's size, and how both grow as ratios.
+
+It stands outside the gate. Build the program first: any call of ./nadvorzet does so."""
+import os
+import subprocess
+import sys
+import tempfile
+import time
+
+TOP = os.path.dirname(os.path.dirname(os.path.abspath(__file__)))
+PROGRAM = os.path.join(TOP, "crates", "up_main", "out", "up_main")
+RUNS = 5
+
+DOMAIN = """(define (domain roads)
+  (:predicates (road ?a ?b) (at ?a))
+  (:action drive :parameters (?a ?b)
+    :precondition (and (road ?a ?b) (at ?a))
+    :effect (and (at ?b) (not (at ?a)))))
+"""
+
+
+def problem(facts, objects):
+    """A ring of roads with chords: `facts` different facts over `objects` places."""
+    names = [f"place-{k}" for k in range(objects)]
+    roads = [f"(road {names[k % objects]} {names[(k + 1 + k // objects) % objects]})" for k in range(facts - 1)]
+    return (
+        f"(define (problem ring) (:domain roads)\n (:objects {' '.join(names)})\n (:init (at place-0)\n  "
+        + "\n  ".join(roads) + f")\n (:goal (at {names[-1]})))\n"
+    )
+
+
+def measured(folder, words):
+    """The best wall time of some runs and the greatest peak of resident memory, in seconds and bytes."""
+    best, peak = float("inf"), 0
+    for _ in range(RUNS):
+        before = time.perf_counter()
+        child = subprocess.Popen([PROGRAM, *words], cwd=folder, stdout=subprocess.PIPE)
+        answer = child.stdout.read()
+        _, status, usage = os.wait4(child.pid, 0)
+        best = min(best, time.perf_counter() - before)
+        peak = max(peak, usage.ru_maxrss * 1024)
+        if status != 0 or not answer.startswith(b"done"):
+            sys.exit(f"the program answered {answer!r}")
+    return best, peak
+
+
+def main():
+    if not os.access(PROGRAM, os.X_OK):
+        sys.exit("build the program first: ./nadvorzet")
+    rows = []
+    with tempfile.TemporaryDirectory() as folder:
+        write = lambda name, text: open(os.path.join(folder, name), "w").write(text)
+        write("d", DOMAIN)
+        write("e", 'name = "strips"\nfeatures = ["ACTION_PARAMETERS"]\n')
+        for facts in (10_000, 100_000):
+            size = write("p", problem(facts, facts // 10)) + len(DOMAIN)
+            seconds, peak = measured(folder, ["compile", "d", "p", "e", "od", "op", "m"])
+            rows.append((facts, size, seconds, peak))
+            print(f"{facts:>7} facts: {size / 1e6:6.2f} MB of input, {size / 1e6 / seconds:7.2f} MB/s, "
+                  f"peak memory {peak / size:5.1f} times the input")
+    (_, small, quick, low), (_, large, slow, high) = rows
+    print(f"the input grows {large / small:.1f} times: time {slow / quick:.1f} times, peak memory {high / low:.1f} times")
+
+
+main()
