@@ -24,7 +24,9 @@ use Rattle.pddl_parse.specs.Shapes.{lacking, extra}
 use Rattle.pddl_parse.specs.Terms as terms
 use Rattle.pddl_parse.specs.Terms.{term, sign_operator, operator_of, least, most, arithmetic}
 use Rattle.pddl_parse.specs.Formulas.{formula, head_of, sign_head, word_head}
-use Rattle.pddl_parse.specs.TypedLists.{variables, typed_list, is_minus, ends_after, last_group}
+use Rattle.pddl_parse.specs.TypedLists.{variables, variable_list, is_minus, ends_after, last_group}
+use Rattle.pddl_parse.specs.declared.typed.Item.TheVariants as item
+use Rattle.pddl_parse.specs.Brackets.{short}
 use Rattle.pddl_parse.specs.TypedLists as lists
 use Rattle.pddl_parse.specs.Forms.{leaf, IsIdent, ident, IsVariable, variable, IsOperator, sum, product, negative, difference, quotient, IsRelation, less, less_equal, same, greater_equal, greater, IsTerm, a_name, a_variable, a_number, a_call, an_expression, AreTerms, no_terms, more_terms, IsFormula, of_and, of_or, of_not, of_imply, of_exists, of_forall, an_atom, a_comparison, AreFormulas, no_formulas, more_formulas, AreVariables, no_variables, more_variables, AreTyped, no_groups, untyped, typed, ident_at}
 use Rattle.pddl_parse.proofs.Nodes.{term-Leaf, term-Group, formula-Group, head_of-Leaf, operator_of-Leaf, variables-Group}
@@ -121,15 +123,15 @@ mutual
 -- ---- typed lists
 
 variables_on : (place : Place) (trees : List Sexp) (names : List Ident) → AreVariables trees names → (rest : List Sexp) (so_far : List Ident)
-    → lists.typed place (trees ++ rest) so_far false ≡ lists.typed place rest (so_far ++ names) false
+    → lists.typed item.Variable place (trees ++ rest) so_far false ≡ lists.typed item.Variable place rest (so_far ++ names) false
 unfolding is_minus shape.variable
 variables_on place _ _ no_variables rest so_far = rw append-nil refl
 variables_on place _ _ (more_variables _ _ trees names (variable word name at is) others) rest so_far =
     rw (is, variables_on place trees names others rest (so_far ++ ident_at name at ∷ []), append_assoc) refl
 
 minus_on : (place at : Place) (tree : Sexp) (rest : List Sexp) (names : List Ident) → names ≢ []
-    → lists.typed place (leaf (kind.Sign sign.Minus) at ∷ tree ∷ rest) names false
-    ≡ over_two (λ t groups. record { names = names; of = Some t } ∷ groups) (shape.ident tree) (lists.typed place rest [] false)
+    → lists.typed item.Variable place (leaf (kind.Sign sign.Minus) at ∷ tree ∷ rest) names false
+    ≡ over_two (λ t groups. record { names = names; of = Some t } ∷ groups) (shape.ident tree) (lists.typed item.Variable place rest [] false)
 unfolding is_minus
 minus_on place at tree rest [] some = absurd (some refl)
 minus_on place at tree rest (name ∷ names) some = refl
@@ -138,7 +140,7 @@ last_on : (place : Place) (names : List Ident) → names ≢ [] → last_group p
 last_on place [] some = absurd (some refl)
 last_on place (name ∷ names) some = refl
 
-groups_read : (place : Place) (trees : List Sexp) (groups : List RawGroup) → AreTyped trees groups → lists.typed place trees [] false ≡ fine groups
+groups_read : (place : Place) (trees : List Sexp) (groups : List RawGroup) → AreTyped trees groups → lists.typed item.Variable place trees [] false ≡ fine groups
 groups_read place _ _ no_groups = refl
 groups_read place _ _ (untyped trees names some are) =
     rw (← append-nil trees, variables_on place trees names are [] []) (last_on place names some)
@@ -169,7 +171,7 @@ ends_groups _ _ (untyped trees names some are) = ends_variables trees names are
 ends_groups _ _ (typed trees names at tree of rest groups some are is others) =
     rw (ends_through trees false (leaf (kind.Sign sign.Minus) at) (tree ∷ rest), ident_no_minus tree of is) (ends_groups rest groups others)
 
-typed_read : (place : Place) (trees : List Sexp) (groups : List RawGroup) → AreTyped trees groups → typed_list place trees ≡ fine groups
+typed_read : (place : Place) (trees : List Sexp) (groups : List RawGroup) → AreTyped trees groups → variable_list place trees ≡ fine groups
 typed_read place trees groups is = rw (ends_groups trees groups is, groups_read place trees groups is) refl
 
 mutual

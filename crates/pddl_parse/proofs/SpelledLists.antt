@@ -13,8 +13,10 @@ use Rattle.pddl_parse.specs.declared.raw.Ident.{Ident}
 use Rattle.pddl_parse.specs.declared.raw.RawGroup.{RawGroup}
 use Rattle.pddl_parse.specs.Shapes as shape
 use Rattle.pddl_parse.specs.Shapes.{Read, kind_variable, misfit, lacking}
+use Rattle.pddl_parse.specs.declared.typed.Item.TheVariants as item
+use Rattle.pddl_parse.specs.Brackets.{short}
 use Rattle.pddl_parse.specs.TypedLists as lists
-use Rattle.pddl_parse.specs.TypedLists.{Go, is_minus, is_minus_kind, on_minus, on_name, last_group, typed_list, ends_in_minus, variables}
+use Rattle.pddl_parse.specs.TypedLists.{Go, is_minus, is_minus_kind, on_minus, on_name, last_group, variable_list, ends_in_minus, variables}
 use Rattle.pddl_parse.specs.Forms.{leaf, IsIdent, IsVariable, variable, AreVariables, no_variables, more_variables, AreTyped, no_groups, untyped, typed}
 use Rattle.pddl_parse.proofs.Rebuilt.{rebuilt}
 use Rattle.pddl_parse.proofs.Spelled.{Sound, sound_two, sound_behind, named_sound, ident_sound}
@@ -79,26 +81,26 @@ on_name_sound P tree (faulty f fs) names go is h = sound_behind P (f ∷ fs) (go
 
 mutual
   names_on : (place : Place) (trees front : List Sexp) (names : List Ident) → AreVariables front names
-      → Sound (lists.typed place trees names false) (AreTyped (front ++ trees))
+      → Sound (lists.typed item.Variable place trees names false) (AreTyped (front ++ trees))
   names_on place [] front names are = last_sound place front names are
   names_on place (tree ∷ rest) front names are =
       step_sound (AreTyped (front ++ tree ∷ rest)) (is_minus tree) _ _
-      (λ e. on_minus_sound (AreTyped (front ++ tree ∷ rest)) tree names (lists.typed place rest) (λ some.
-      subst (λ x. Sound (lists.typed place rest names true) (AreTyped (front ++ x ∷ rest))) (sym (minus_is tree e).is)
+      (λ e. on_minus_sound (AreTyped (front ++ tree ∷ rest)) tree names (lists.typed item.Variable place rest) (λ some.
+      subst (λ x. Sound (lists.typed item.Variable place rest names true) (AreTyped (front ++ x ∷ rest))) (sym (minus_is tree e).is)
       (type_on place rest front names (minus_is tree e).at are some)))
-      (on_name_sound (AreTyped (front ++ tree ∷ rest)) tree (shape.variable tree) names (lists.typed place rest) (variable_sound tree) (λ it is.
-      subst (λ xs. Sound (lists.typed place rest (names ++ it ∷ []) false) (AreTyped xs)) (append_assoc front (tree ∷ []) rest)
+      (on_name_sound (AreTyped (front ++ tree ∷ rest)) tree (shape.variable tree) names (lists.typed item.Variable place rest) (variable_sound tree) (λ it is.
+      subst (λ xs. Sound (lists.typed item.Variable place rest (names ++ it ∷ []) false) (AreTyped xs)) (append_assoc front (tree ∷ []) rest)
       (names_on place rest (front ++ tree ∷ []) (names ++ it ∷ []) (snoc front names are tree it is))))
 
   type_on : (place : Place) (trees front : List Sexp) (names : List Ident) (at : Place) → AreVariables front names → names ≢ []
-      → Sound (lists.typed place trees names true) (AreTyped (front ++ leaf (kind.Sign sign.Minus) at ∷ trees))
+      → Sound (lists.typed item.Variable place trees names true) (AreTyped (front ++ leaf (kind.Sign sign.Minus) at ∷ trees))
   type_on place [] front names at are some = tt
   type_on place (tree ∷ rest) front names at are some =
-      sound_two (IsIdent tree) (AreTyped rest) (AreTyped (front ++ leaf (kind.Sign sign.Minus) at ∷ tree ∷ rest)) _ (shape.ident tree) (lists.typed place rest [] false)
+      sound_two (IsIdent tree) (AreTyped rest) (AreTyped (front ++ leaf (kind.Sign sign.Minus) at ∷ tree ∷ rest)) _ (shape.ident tree) (lists.typed item.Variable place rest [] false)
       (λ it groups is others. typed front names at tree it rest groups some are is others) (ident_sound tree) (names_on place rest [] [] no_variables)
 
-list_sound : (place : Place) (trees : List Sexp) → Sound (typed_list place trees) (AreTyped trees)
-list_sound place trees = sound_behind (AreTyped trees) (lacking (ends_in_minus trees) place) (lists.typed place trees [] false) (λ e. names_on place trees [] [] no_variables)
+list_sound : (place : Place) (trees : List Sexp) → Sound (variable_list place trees) (AreTyped trees)
+list_sound place trees = sound_behind (AreTyped trees) (short (ends_in_minus trees) place trees) (lists.typed item.Variable place trees [] false) (λ e. names_on place trees [] [] no_variables)
 
 sound_map : (P Q : List RawGroup → Type 0) (v : Read (List RawGroup)) → ((g : List RawGroup) → P g → Q g) → Sound v P → Sound v Q
 sound_map P Q (fine g) h p = h g p
@@ -108,5 +110,5 @@ pub vars_sound : (tree : Sexp) → Sound (variables tree) (AreVars tree)
 unfolding variables
 vars_sound (Leaf token) = tt
 vars_sound (Group' place n row) =
-    sound_map (AreTyped (items-the_row-Sexp _ row)) (AreVars (Group' place n row)) (typed_list place (items-the_row-Sexp _ row))
+    sound_map (AreTyped (items-the_row-Sexp _ row)) (AreVars (Group' place n row)) (variable_list place (items-the_row-Sexp _ row))
     (λ groups are. vars place (items-the_row-Sexp _ row) (rebuilt place n row) are) (list_sound place (items-the_row-Sexp _ row))

@@ -23,10 +23,10 @@ abbrev pub word_fault : List ℕ → Place → ShapeError
 word_fault word place = if is_left_out word then LeftOut place else Expected place
 
 abbrev pub kind_fault : Place → Place → TokenKind → ShapeError
-kind_fault place at (kind.Word word) = word_fault word at
+kind_fault place at (kind.Word word) = if is_left_out word then LeftOut at else Expected place
 kind_fault place at _ = Expected place
 
--- the fault of a token that doesn't fit, which begins a tree of this place
+-- the fault of a tree at this place that doesn't fit and begins with this token
 abbrev pub misfit_token : Place → Token → ShapeError
 misfit_token place token = kind_fault place token.place token.kind
 

@@ -1,10 +1,11 @@
 ghost use Rattle.std.specs.Prelude.{◌≡◌, Some, IfOk, IfErr, map};
-ghost use Rattle.pddl_lex.specs.Verdicts.{fine, first, all};
-ghost use Rattle.pddl_parse.specs.Formulas.{formula, negation, implication, quantified, comparison};
+ghost use Rattle.pddl_lex.specs.Verdicts.{fine, first, all, followed};
+ghost use Rattle.pddl_parse.specs.Formulas.{formula, negation, implication, quantified, quantify, comparison};
+ghost use Rattle.pddl_parse.specs.Shapes.{extra};
 
 use crate::head::{Head, Quantifier, head_of};
 use crate::ident::ident;
-use crate::raw::{RawFormula, Relation};
+use crate::raw::{RawFormula, RawGroup, Relation};
 use crate::shape::{ShapeError, misfit, no_extra};
 use crate::term::{raw_term, raw_terms};
 use crate::typed::variables;
@@ -51,6 +52,14 @@ fn negation(alloc: Global, place: Place, rest: &[Sexp]) -> Result<RawFormula, Sh
         return Err(ShapeError::Expected { place });
     };
     let body = raw_formula(alloc, tree)?;
+    negated(alloc, body, others)
+}
+
+#[tactic(auto, using(crate::proofs::Steps::steps))]
+fn negated(alloc: Global, body: RawFormula, others: &[Sexp]) -> Result<RawFormula, ShapeError>
+    ensures ok { IfOk result (λ it. followed (fine (RawFormula.Not body)) (extra others.now) ≡ fine it) }
+    ensures err { IfErr result (λ e. ¬ (e ≡ ShapeError.Memory) → first (followed (fine (RawFormula.Not body)) (extra others.now)) ≡ Some e) }
+{
     no_extra(others)?;
     Ok(RawFormula::Not(Box::new(alloc, body)?))
 }
@@ -67,10 +76,29 @@ fn implication(alloc: Global, place: Place, rest: &[Sexp]) -> Result<RawFormula,
     let Some((two, others)) = others.split_first() else {
         return Err(ShapeError::Expected { place });
     };
-    let a = raw_formula(alloc, one)?;
-    let b = raw_formula(alloc, two)?;
+    let a = boxed(alloc, raw_formula(alloc, one)?)?;
+    let b = boxed(alloc, raw_formula(alloc, two)?)?;
+    implied(a, b, others)
+}
+
+fn boxed(alloc: Global, body: RawFormula) -> Result<Box<RawFormula>, ShapeError>
+    ensures ok { IfOk result (λ it. it ≡ body) }
+    ensures err { IfErr result (λ e. e ≡ ShapeError.Memory) }
+{
+    Ok(Box::new(alloc, body)?)
+}
+
+#[tactic(auto, using(crate::proofs::Steps::steps))]
+fn implied(
+    a: Box<RawFormula>,
+    b: Box<RawFormula>,
+    others: &[Sexp],
+) -> Result<RawFormula, ShapeError>
+    ensures ok { IfOk result (λ it. followed (fine (RawFormula.Imply a b)) (extra others.now) ≡ fine it) }
+    ensures err { IfErr result (λ e. ¬ (e ≡ ShapeError.Memory) → first (followed (fine (RawFormula.Imply a b)) (extra others.now)) ≡ Some e) }
+{
     no_extra(others)?;
-    Ok(RawFormula::Imply(Box::new(alloc, a)?, Box::new(alloc, b)?))
+    Ok(RawFormula::Imply(a, b))
 }
 
 #[cycle(formula)]
@@ -92,6 +120,20 @@ fn quantified(
     };
     let vars = variables(alloc, one)?;
     let body = raw_formula(alloc, two)?;
+    quantify(alloc, quantifier, vars, body, others)
+}
+
+#[tactic(auto, using(crate::proofs::Steps::steps))]
+fn quantify(
+    alloc: Global,
+    quantifier: Quantifier,
+    vars: List<RawGroup>,
+    body: RawFormula,
+    others: &[Sexp],
+) -> Result<RawFormula, ShapeError>
+    ensures ok { IfOk result (λ it. followed (fine (quantify quantifier vars body)) (extra others.now) ≡ fine it) }
+    ensures err { IfErr result (λ e. ¬ (e ≡ ShapeError.Memory) → first (followed (fine (quantify quantifier vars body)) (extra others.now)) ≡ Some e) }
+{
     no_extra(others)?;
     let body = Box::new(alloc, body)?;
     match quantifier {
@@ -120,6 +162,15 @@ fn comparison(
     let b = raw_term(alloc, two)?;
     no_extra(others)?;
     Ok(RawFormula::Compare(place, relation, a, b))
+}
+
+/// A condition in a box.
+#[tactic(auto, using(crate::proofs::Steps::steps))]
+pub fn boxed_formula(alloc: Global, tree: &Sexp) -> Result<Box<RawFormula>, ShapeError>
+    ensures ok { IfOk result (λ it. formula tree.now ≡ fine it) }
+    ensures err { IfErr result (λ e. ¬ (e ≡ ShapeError.Memory) → first (formula tree.now) ≡ Some e) }
+{
+    boxed(alloc, raw_formula(alloc, tree)?)
 }
 
 #[cycle(formula)]

@@ -121,11 +121,11 @@ pub struct RawFunctions {
 pub enum RawConstraint {
     And(List<RawConstraint>),
     Forall(List<RawGroup>, Box<RawConstraint>),
-    Always(RawFormula),
-    Sometime(RawFormula),
-    AtMostOnce(RawFormula),
-    SometimeAfter(RawFormula, RawFormula),
-    SometimeBefore(RawFormula, RawFormula),
+    Always(Box<RawFormula>),
+    Sometime(Box<RawFormula>),
+    AtMostOnce(Box<RawFormula>),
+    SometimeAfter(Box<RawFormula>, Box<RawFormula>),
+    SometimeBefore(Box<RawFormula>, Box<RawFormula>),
 }
 
 /// A predicate or a function at names, with the place of its bracket.

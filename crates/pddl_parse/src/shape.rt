@@ -23,7 +23,7 @@ impl From<Memory> for ShapeError {
 }
 
 // One of the words that are left out wherever they stand.
-fn is_left_out(word: &[u8]) -> bool
+pub fn is_left_out(word: &[u8]) -> bool
     ensures { result ≡ is_left_out word.now }
 {
     word == b"either".as_slice()
@@ -43,12 +43,18 @@ pub fn word_fault(word: &[u8], place: Place) -> ShapeError
     }
 }
 
-// The fault of a token that doesn't fit, which begins a tree of this place.
+// The fault of a tree at this place that doesn't fit and begins with this token.
 pub fn misfit_token(place: Place, token: &Token) -> ShapeError
     ensures { result ≡ misfit_token place token.now }
 {
     match &token.kind {
-        TokenKind::Word(word) => word_fault(word.as_slice(), token.place),
+        TokenKind::Word(word) => {
+            if is_left_out(word.as_slice()) {
+                ShapeError::LeftOut { place: token.place }
+            } else {
+                ShapeError::Expected { place }
+            }
+        }
         _ => ShapeError::Expected { place },
     }
 }
@@ -62,7 +68,8 @@ fn misfit_head(place: Place, tree: &Sexp) -> ShapeError
     }
 }
 
-fn misfit_group(place: Place, items: &[Sexp]) -> ShapeError
+// The fault of a bracket that doesn't fit, or that lacks something.
+pub fn misfit_group(place: Place, items: &[Sexp]) -> ShapeError
     ensures { result ≡ misfit_group place items.now }
 {
     match items.split_first() {

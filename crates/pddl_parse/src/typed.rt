@@ -1,19 +1,35 @@
 ghost use Rattle.std.specs.Prelude.{◌≡◌, List as Sequence, [], ◌∷◌, true, false, Some, IfOk, IfErr};
 ghost use Rattle.pddl_lex.specs.declared.tree.Sexp.{Sexp};
 ghost use Rattle.up_text.specs.declared.place.Place.{Place};
-ghost use Rattle.pddl_parse.specs.Shapes.{variable};
 ghost use Rattle.pddl_lex.specs.Verdicts.{fine, first, before};
-ghost use Rattle.pddl_parse.specs.TypedLists.{Go, is_minus, ends_in_minus, typed, typed_step, on_minus, on_name, variables, last_group};
+ghost use Rattle.pddl_parse.specs.TypedLists.{Go, listed, typed_list, variable_list, is_minus, ends_in_minus, typed, typed_step, on_minus, on_name, variables, last_group};
 
 use crate::ident::{ident, variable};
 use crate::raw::{Ident, RawGroup};
-use crate::shape::{ShapeError, misfit};
+use crate::shape::{ShapeError, misfit, misfit_group};
 use pddl_lex::{Sexp, Sign, TokenKind};
 use std::alloc::Global;
 use up_text::{List, Place};
 
+/// What stands in a typed list.
+#[derive(Clone, Copy, Debug, PartialEq, Eq)]
+pub enum Item {
+    Name,
+    Variable,
+}
+
+fn listed(alloc: Global, what: Item, tree: &Sexp) -> Result<Ident, ShapeError>
+    ensures ok { IfOk result (λ it. listed what tree.now ≡ fine it) }
+    ensures err { IfErr result (λ e. ¬ (e ≡ ShapeError.Memory) → first (listed what tree.now) ≡ Some e) }
+{
+    match what {
+        Item::Name => ident(alloc, tree),
+        Item::Variable => variable(alloc, tree),
+    }
+}
+
 #[tactic(auto, using(crate::proofs::Nodes::nodes))]
-fn is_minus(tree: &Sexp) -> bool
+pub fn is_minus(tree: &Sexp) -> bool
     ensures { result ≡ is_minus tree.now }
 {
     match tree {
@@ -25,7 +41,7 @@ fn is_minus(tree: &Sexp) -> bool
     }
 }
 
-fn ends_in_minus(items: &[Sexp]) -> bool
+pub fn ends_in_minus(items: &[Sexp]) -> bool
     ensures { result ≡ ends_in_minus items.now }
 {
     let mut ends = false;
@@ -48,23 +64,23 @@ struct Typing {
 impl Typing {
     // Goes on behind one tree.
     #[tactic(auto, using(crate::proofs::Steps::steps))]
-    fn step(self, alloc: Global, tree: &Sexp) -> Result<Typing, ShapeError>
-        ensures ok { IfOk result (λ new. (place : Place) (rest : Sequence Sexp) → before self.groups (typed place (tree.now ∷ rest) self.names self.due) ≡ before new.groups (typed place rest new.names new.due)) }
-        ensures err { IfErr result (λ e. ¬ (e ≡ ShapeError.Memory) → (place : Place) (rest : Sequence Sexp) → first (typed place (tree.now ∷ rest) self.names self.due) ≡ Some e) }
+    fn step(self, alloc: Global, what: Item, tree: &Sexp) -> Result<Typing, ShapeError>
+        ensures ok { IfOk result (λ new. (place : Place) (rest : Sequence Sexp) → before self.groups (typed what place (tree.now ∷ rest) self.names self.due) ≡ before new.groups (typed what place rest new.names new.due)) }
+        ensures err { IfErr result (λ e. ¬ (e ≡ ShapeError.Memory) → (place : Place) (rest : Sequence Sexp) → first (typed what place (tree.now ∷ rest) self.names self.due) ≡ Some e) }
     {
         if self.due {
-            self.of_type(alloc, tree)
+            self.of_type(alloc, what, tree)
         } else if is_minus(tree) {
             self.minus(tree)
         } else {
-            self.name(alloc, tree)
+            self.name(alloc, what, tree)
         }
     }
 
     #[tactic(auto, using(crate::proofs::Steps::steps))]
-    fn of_type(self, alloc: Global, tree: &Sexp) -> Result<Typing, ShapeError>
-        ensures ok { IfOk result (λ new. (go : Go) → before self.groups (typed_step tree.now self.names true go) ≡ before new.groups (go new.names new.due)) }
-        ensures err { IfErr result (λ e. ¬ (e ≡ ShapeError.Memory) → (go : Go) → first (typed_step tree.now self.names true go) ≡ Some e) }
+    fn of_type(self, alloc: Global, what: Item, tree: &Sexp) -> Result<Typing, ShapeError>
+        ensures ok { IfOk result (λ new. (go : Go) → before self.groups (typed_step what tree.now self.names true go) ≡ before new.groups (go new.names new.due)) }
+        ensures err { IfErr result (λ e. ¬ (e ≡ ShapeError.Memory) → (go : Go) → first (typed_step what tree.now self.names true go) ≡ Some e) }
     {
         let Typing {
             mut groups,
@@ -102,16 +118,16 @@ impl Typing {
         })
     }
 
-    fn name(self, alloc: Global, tree: &Sexp) -> Result<Typing, ShapeError>
-        ensures ok { IfOk result (λ new. (go : Go) → before self.groups (on_name (variable tree.now) self.names go) ≡ before new.groups (go new.names new.due)) }
-        ensures err { IfErr result (λ e. ¬ (e ≡ ShapeError.Memory) → (go : Go) → first (on_name (variable tree.now) self.names go) ≡ Some e) }
+    fn name(self, alloc: Global, what: Item, tree: &Sexp) -> Result<Typing, ShapeError>
+        ensures ok { IfOk result (λ new. (go : Go) → before self.groups (on_name (listed what tree.now) self.names go) ≡ before new.groups (go new.names new.due)) }
+        ensures err { IfErr result (λ e. ¬ (e ≡ ShapeError.Memory) → (go : Go) → first (on_name (listed what tree.now) self.names go) ≡ Some e) }
     {
         let Typing {
             groups,
             mut names,
             due: _,
         } = self;
-        names.push(variable(alloc, tree)?)?;
+        names.push(listed(alloc, what, tree)?)?;
         Ok(Typing {
             groups,
             names,
@@ -140,9 +156,14 @@ impl Typing {
 }
 
 #[tactic(auto, using(crate::proofs::Steps::steps))]
-fn typed(alloc: Global, place: Place, items: &[Sexp]) -> Result<List<RawGroup>, ShapeError>
-    ensures ok { IfOk result (λ them. typed place items.now [] false ≡ fine them) }
-    ensures err { IfErr result (λ e. ¬ (e ≡ ShapeError.Memory) → first (typed place items.now [] false) ≡ Some e) }
+pub fn typed(
+    alloc: Global,
+    what: Item,
+    place: Place,
+    items: &[Sexp],
+) -> Result<List<RawGroup>, ShapeError>
+    ensures ok { IfOk result (λ them. typed what place items.now [] false ≡ fine them) }
+    ensures err { IfErr result (λ e. ¬ (e ≡ ShapeError.Memory) → first (typed what place items.now [] false) ≡ Some e) }
 {
     let mut typing = Typing {
         groups: List::new(alloc),
@@ -151,10 +172,38 @@ fn typed(alloc: Global, place: Place, items: &[Sexp]) -> Result<List<RawGroup>, 
     };
     let mut rest = items;
     'reading: while let Some((tree, behind)) = rest.split_first() {
-        typing = typing.step(alloc, tree)?;
+        typing = typing.step(alloc, what, tree)?;
         rest = behind;
     }
     typing.end(place)
+}
+
+/// The items of a section at this place, with their types.
+#[tactic(auto, using(crate::proofs::Steps::steps))]
+pub fn typed_list(
+    alloc: Global,
+    what: Item,
+    place: Place,
+    items: &[Sexp],
+) -> Result<List<RawGroup>, ShapeError>
+    ensures ok { IfOk result (λ them. typed_list what place items.now ≡ fine them) }
+    ensures err { IfErr result (λ e. ¬ (e ≡ ShapeError.Memory) → first (typed_list what place items.now) ≡ Some e) }
+{
+    if ends_in_minus(items) {
+        return Err(ShapeError::Expected { place });
+    }
+    typed(alloc, what, place, items)
+}
+
+#[tactic(auto, using(crate::proofs::Steps::steps))]
+fn variable_list(alloc: Global, place: Place, items: &[Sexp]) -> Result<List<RawGroup>, ShapeError>
+    ensures ok { IfOk result (λ them. variable_list place items.now ≡ fine them) }
+    ensures err { IfErr result (λ e. ¬ (e ≡ ShapeError.Memory) → first (variable_list place items.now) ≡ Some e) }
+{
+    if ends_in_minus(items) {
+        return Err(misfit_group(place, items));
+    }
+    typed(alloc, Item::Variable, place, items)
 }
 
 /// A list of variables with types.
@@ -165,11 +214,6 @@ pub fn variables(alloc: Global, tree: &Sexp) -> Result<List<RawGroup>, ShapeErro
 {
     match tree {
         Sexp::Leaf(_) => Err(misfit(tree)),
-        Sexp::Group(place, items) => {
-            if ends_in_minus(items.as_slice()) {
-                return Err(ShapeError::Expected { place: *place });
-            }
-            typed(alloc, *place, items.as_slice())
-        }
+        Sexp::Group(place, items) => { variable_list(alloc, *place, items.as_slice()) }
     }
 }

@@ -1,1 +1,4 @@
 pub mod Back
+pub mod Compose
+pub mod Identity
+pub mod Table

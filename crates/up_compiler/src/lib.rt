@@ -2,7 +2,15 @@
 #![tactic(auto)]
 
 mod back;
+mod composing;
 mod id;
+mod identities;
+mod laws;
+mod table;
 
 pub use back::{Back, Compiled, Entry, Item, Target};
+pub use composing::compose;
 pub use id::{Chain, CompilerId};
+pub use identities::identity;
+pub use laws::{composed_converts_twice, identity_keeps_plans, rows_keep_subsets};
+pub use table::{admits, row_result};

@@ -1,6 +1,7 @@
-ghost use Rattle.std.specs.Prelude.{◌≡◌, ◌≤◌, None, length, IfOk, IsErrOf};
+ghost use Rattle.std.specs.Prelude.{◌≡◌, ◌≤◌, [], None, length, IfOk, IsErrOf, IsTrue};
+ghost use Rattle.up_store.specs.Outside.{IsSuffix};
 
-use crate::{INPUT_LIMIT, ReadFail, Store, Word, WriteFail};
+use crate::{INPUT_LIMIT, Pieces, ReadFail, Store, Word, WriteFail};
 use std::alloc::Global;
 use std::fs;
 use std::io::{ErrorKind, Read, Write};
@@ -17,6 +18,7 @@ pub struct FolderStore<'r, R: Files> {
 }
 
 impl<'r, R: Files> FolderStore<'r, R> {
+    /// The store over the working folder of the process.
     pub fn new(rt: &'r R) -> FolderStore<'r, R> {
         FolderStore {
             rt,
@@ -62,11 +64,8 @@ fn read_file<R: Files>(alloc: Global, rt: &R, name: &Word) -> Result<Vec<u8>, Re
     read_rest(alloc, &mut file)
 }
 
-// Makes the file anew and writes all bytes, at least one a turn.
-fn write_file<R: Files>(rt: &R, name: &Word, bytes: &[u8]) -> bool {
-    let Ok(mut file) = fs::create(rt, name.text()) else {
-        return false;
-    };
+// Writes all bytes, at least one a turn.
+fn write_all<F: Write>(file: &mut F, bytes: &[u8]) -> bool {
     let mut at = 0;
     while at < bytes.len() {
         match file.write(&bytes[at..]) {
@@ -75,7 +74,41 @@ fn write_file<R: Files>(rt: &R, name: &Word, bytes: &[u8]) -> bool {
             Err(_) => return false,
         }
     }
-    file.flush().is_ok()
+    true
+}
+
+// Makes the file anew.
+fn write_file<R: Files>(rt: &R, name: &Word, bytes: &[u8]) -> bool {
+    let Ok(mut file) = fs::create(rt, name.text()) else {
+        return false;
+    };
+    write_all(&mut file, bytes) && file.flush().is_ok()
+}
+
+// Writes piece after piece, up to the first that fails.
+#[tactic(auto, using(crate::proofs::Suffix::pieces))]
+fn write_each<F: Write, P: Pieces>(file: &mut F, pieces: &mut P) -> bool
+    ensures end { IsTrue result → P.rest pieces.new ≡ [] }
+    ensures left { IsSuffix (P.rest pieces.new) (P.rest pieces.old) }
+{
+    while pieces.advance() {
+        if !write_all(file, pieces.piece()) {
+            return false;
+        }
+    }
+    true
+}
+
+// Makes the file anew, one piece at a time.
+#[tactic(auto, using(crate::proofs::Suffix::pieces))]
+fn write_file_pieces<R: Files, P: Pieces>(rt: &R, name: &Word, pieces: &mut P) -> bool
+    ensures end { IsTrue result → P.rest pieces.new ≡ [] }
+    ensures left { IsSuffix (P.rest pieces.new) (P.rest pieces.old) }
+{
+    let Ok(mut file) = fs::create(rt, name.text()) else {
+        return false;
+    };
+    write_each(&mut file, pieces) && file.flush().is_ok()
 }
 
 impl<'r, R: Files> Store for FolderStore<'r, R> {
@@ -102,6 +135,19 @@ impl<'r, R: Files> Store for FolderStore<'r, R> {
 
     fn write(&mut self, _: Global, name: &Word, bytes: &[u8]) -> Result<(), WriteFail> {
         if write_file(self.rt, name, bytes) {
+            return Ok(());
+        }
+        self.losses = self.losses.saturating_add(1);
+        Err(WriteFail::Failed)
+    }
+
+    fn write_pieces<P: Pieces>(
+        &mut self,
+        _: Global,
+        name: &Word,
+        pieces: &mut P,
+    ) -> Result<(), WriteFail> {
+        if write_file_pieces(self.rt, name, pieces) {
             return Ok(());
         }
         self.losses = self.losses.saturating_add(1);

@@ -1,16 +1,18 @@
-ghost use Rattle.std.specs.Prelude.{◌≡◌, ◌↔◌, [], ◌==◌, find, Some, None, option_map, ℕ, List, IfSome, IsSome, IsNone, OnOk, OnErr, IsErrOf};
+ghost use Rattle.std.specs.Prelude.{◌≡◌, ◌↔◌, ◌≤◌, [], ◌==◌, find, Some, None, Err, option_map, ℕ, List, IfOk, IfSome, IsSome, IsSomeAnd, IsNone, IsOk, IsErr, IsTrue, OnOk, OnErr, IsErrOf};
 ghost use Rattle.std.specs.Option.{option_copied};
-ghost use Rattle.up_store.specs.Outside.{with_file, held_with, KeepsOrCuts, ReadAnswers, Rose, NoneFalls};
+ghost use Rattle.up_store.specs.Outside.{with_file, held_with, IsSuffix, KeepsOrCuts, ReadAnswers, Rose, NoneFalls};
 ghost use Rattle.up_store.specs.Planned.{text_of, planned};
 
-use crate::{INPUT_LIMIT, ReadFail, Store, Word, WriteFail};
+use crate::{INPUT_LIMIT, Pieces, ReadFail, Store, Word, WriteFail};
 use std::alloc::Global;
 use up_text::{List, Memory};
 
 /// A call of the store that fails, counted from 1, and how much of a failing write stands.
 #[derive(Clone, Copy, Debug, PartialEq, Eq)]
 pub struct Failing {
+    /// The number of the call, counted from 1.
     pub call: u64,
+    /// How many bytes of a write stand, or none where the old text does.
     pub kept: Option<u64>,
 }
 
@@ -66,12 +68,28 @@ fn add_text(alloc: Global, texts: &mut Vec<Text>, name: &[u8], bytes: &[u8]) -> 
     Ok(())
 }
 
+// All pieces together.
+#[tactic(auto, using(crate::proofs::Suffix::pieces))]
+fn gather<P: Pieces>(alloc: Global, pieces: &mut P) -> Result<Vec<u8>, Memory>
+    ensures all { IfOk result (λ bytes. bytes.items ≡ P.rest pieces.old) }
+    ensures end { OnOk result (P.rest pieces.new ≡ []) }
+    ensures left { OnErr result (IsSuffix (P.rest pieces.new) (P.rest pieces.old)) }
+{
+    let mut bytes = Vec::new(alloc);
+    while pieces.advance() {
+        bytes.extend_from_slice(pieces.piece())?;
+    }
+    Ok(bytes)
+}
+
 impl MemoryStore {
-    ghost use Rattle.up_store.specs.Memory.{files_of, SameCounts, cut_texts};
+    ghost use Rattle.up_store.specs.Memory.{files_of, faults_of, misses_of, larges_of, losses_of, next_plan, cut_texts, SameCounts, SameFaults, NoneCounted, HasPlans, Called};
 
     /// An empty store whose calls fail as planned.
     pub fn new(alloc: Global, failing: List<Failing>) -> MemoryStore
-        ensures { (name : List ℕ) → files_of result name ≡ None }
+        ensures empty { (name : List ℕ) → files_of result name ≡ None }
+        ensures plans { HasPlans failing 0 result }
+        ensures counts { NoneCounted result }
     {
         MemoryStore {
             alloc,
@@ -98,6 +116,7 @@ impl MemoryStore {
     fn hold_cut(&mut self, plan: Failing, name: &Word, bytes: &[u8]) -> Result<(), Memory>
         ensures ok { OnOk result (files_of self.new ≡ cut_texts plan name.now bytes.now (files_of self.old)) }
         ensures cut { OnOk result (KeepsOrCuts name.now bytes.now (Some (files_of self.old)) (Some (files_of self.new))) }
+        ensures refused { plan.kept ≡ None → IsOk result }
         ensures err { OnErr result (files_of self.new ≡ files_of self.old) }
         ensures counts { SameCounts self.old self.new }
     {
@@ -111,6 +130,51 @@ impl MemoryStore {
         }
     }
 
+    // Counts a call and answers the plan for it.
+    fn plan_call(&mut self) -> Option<Failing>
+        ensures plan { result ≡ next_plan self.old }
+        ensures called { Called self.old self.new }
+        ensures texts { self.new.texts ≡ self.old.texts }
+        ensures counts { SameFaults self.old self.new }
+    {
+        self.calls = self.calls.saturating_add(1);
+        plan_of(self.failing.as_slice(), self.calls)
+    }
+
+    // Writes a text as the plan for the call has it.
+    fn write_planned(
+        &mut self,
+        plan: Option<Failing>,
+        name: &Word,
+        bytes: &[u8],
+    ) -> Result<(), WriteFail>
+        ensures planned { IfSome plan (λ plan. IsErr result) }
+        ensures refused { IfSome plan (λ plan. plan.kept ≡ None → result ≡ Err WriteFail.Failed) }
+        ensures cut_at { IfSome plan (λ plan. IsErrOf result WriteFail.Failed → files_of self.new ≡ cut_texts plan name.now bytes.now (files_of self.old)) }
+        ensures unplanned { IsNone plan → ¬ IsErrOf result WriteFail.Failed }
+        ensures quiet { IsNone plan → self.new.losses ≡ self.old.losses }
+        ensures same { HasPlans self.old.failing self.old.calls self.new }
+        ensures written { OnOk result (files_of self.new ≡ with_file name.now bytes.now (files_of self.old)) }
+        ensures memory { IsErrOf result WriteFail.Memory → files_of self.new ≡ files_of self.old }
+        ensures cut { IsErrOf result WriteFail.Failed → KeepsOrCuts name.now bytes.now (Some (files_of self.old)) (Some (files_of self.new)) }
+        ensures failed { IsErrOf result WriteFail.Failed → Rose self.old.losses self.new.losses }
+        ensures losses { self.old.losses ≤ self.new.losses }
+        ensures faults { self.new.faults ≡ self.old.faults }
+        ensures misses { self.new.misses ≡ self.old.misses }
+        ensures larges { self.new.larges ≡ self.old.larges }
+    {
+        let Some(plan) = plan else {
+            return self.hold(name, bytes).map_err(|_| WriteFail::Memory);
+        };
+        match self.hold_cut(plan, name, bytes) {
+            Ok(()) => {
+                self.losses = self.losses.saturating_add(1);
+                Err(WriteFail::Failed)
+            }
+            Err(Memory) => Err(WriteFail::Memory),
+        }
+    }
+
     /// The text under a name.
     pub fn get(&self, name: &Word) -> Option<&[u8]>
         ensures { option_map (λ x. x.now) result ≡ files_of self.now name.now }
@@ -120,10 +184,9 @@ impl MemoryStore {
 }
 
 impl Store for MemoryStore {
-    ghost use Rattle.std.specs.Prelude.{ℕ, List, Some, Err, ◌≡◌, ◌⊎◌, IfSome, IsSome, IsNone, OnOk, IsErrOf};
-    ghost use Rattle.up_store.specs.Outside.{held_with, KeepsOrCuts, ReadAnswers, Rose, NoneFalls};
-    ghost use Rattle.up_store.specs.Memory.{files_of, faults_of, misses_of, larges_of, losses_of, next_plan, counted, cut_texts};
-    ghost use Rattle.up_store.specs.Planned.{planned};
+    ghost use Rattle.std.specs.Prelude.{ℕ, List, [], None, Some, Err, ◌≡◌, IfSome, IsSome, IsNone, IsErr, OnOk, OnErr, IsErrOf};
+    ghost use Rattle.up_store.specs.Outside.{held_with, KeepsOrCuts, IsSuffix, ReadAnswers, Rose, NoneFalls};
+    ghost use Rattle.up_store.specs.Memory.{files_of, faults_of, misses_of, larges_of, losses_of, next_plan, cut_texts, Called};
 
     ghost held = { λ s. Some (files_of s) };
 
@@ -138,9 +201,9 @@ impl Store for MemoryStore {
     fn read(&mut self, alloc: Global, name: &Word) -> Result<Vec<u8>, ReadFail>
         ensures planned { IsSome (next_plan self.old) → result ≡ Err ReadFail.Failed }
         ensures unplanned { IsNone (next_plan self.old) → ¬ IsErrOf result ReadFail.Failed }
-        ensures quiet { IsNone (next_plan self.old) → self.new.faults ≡ self.old.faults }
+        ensures quiet { IsNone (next_plan self.old) → faults_of self.new ≡ faults_of self.old }
+        ensures called { Called self.old self.new }
         ensures texts { files_of self.new ≡ files_of self.old }
-        ensures call { next_plan self.new ≡ planned self.old.failing (counted (counted self.old.calls)) }
         ensures kept { Some (files_of self.new) ≡ Some (files_of self.old) }
         ensures answers { ReadAnswers (files_of self.old name.now) result }
         ensures failed { IsErrOf result ReadFail.Failed → Rose (faults_of self.old name.now) (faults_of self.new name.now) }
@@ -151,8 +214,7 @@ impl Store for MemoryStore {
         ensures larges { NoneFalls (larges_of self.old) (larges_of self.new) }
         ensures losses { losses_of self.new ≡ losses_of self.old }
     {
-        self.calls = self.calls.saturating_add(1);
-        if plan_of(self.failing.as_slice(), self.calls).is_some() {
+        if self.plan_call().is_some() {
             self.faults = self.faults.saturating_add(1);
             return Err(ReadFail::Failed);
         }
@@ -168,11 +230,12 @@ impl Store for MemoryStore {
     }
 
     fn write(&mut self, _: Global, name: &Word, bytes: &[u8]) -> Result<(), WriteFail>
-        ensures planned { IfSome (next_plan self.old) (λ plan. (result ≡ Err WriteFail.Memory) ⊎ (result ≡ Err WriteFail.Failed)) }
+        ensures planned { IfSome (next_plan self.old) (λ plan. IsErr result) }
+        ensures refused { IfSome (next_plan self.old) (λ plan. plan.kept ≡ None → result ≡ Err WriteFail.Failed) }
         ensures cut_at { IfSome (next_plan self.old) (λ plan. IsErrOf result WriteFail.Failed → files_of self.new ≡ cut_texts plan name.now bytes.now (files_of self.old)) }
         ensures unplanned { IsNone (next_plan self.old) → ¬ IsErrOf result WriteFail.Failed }
-        ensures quiet { IsNone (next_plan self.old) → self.new.losses ≡ self.old.losses }
-        ensures call { next_plan self.new ≡ planned self.old.failing (counted (counted self.old.calls)) }
+        ensures quiet { IsNone (next_plan self.old) → losses_of self.new ≡ losses_of self.old }
+        ensures called { Called self.old self.new }
         ensures written { OnOk result (Some (files_of self.new) ≡ held_with name.now bytes.now (Some (files_of self.old))) }
         ensures memory { IsErrOf result WriteFail.Memory → Some (files_of self.new) ≡ Some (files_of self.old) }
         ensures cut { IsErrOf result WriteFail.Failed → KeepsOrCuts name.now bytes.now (Some (files_of self.old)) (Some (files_of self.new)) }
@@ -182,15 +245,35 @@ impl Store for MemoryStore {
         ensures misses { misses_of self.new ≡ misses_of self.old }
         ensures larges { larges_of self.new ≡ larges_of self.old }
     {
-        self.calls = self.calls.saturating_add(1);
-        let Some(plan) = plan_of(self.failing.as_slice(), self.calls) else {
-            return self.hold(name, bytes).map_err(|_| WriteFail::Memory);
-        };
-        match self.hold_cut(plan, name, bytes) {
-            Ok(()) => {
-                self.losses = self.losses.saturating_add(1);
-                Err(WriteFail::Failed)
-            }
+        let plan = self.plan_call();
+        self.write_planned(plan, name, bytes)
+    }
+
+    fn write_pieces<P: Pieces>(
+        &mut self,
+        alloc: Global,
+        name: &Word,
+        pieces: &mut P,
+    ) -> Result<(), WriteFail>
+        ensures planned { IfSome (next_plan self.old) (λ plan. IsErr result) }
+        ensures cut_at { IfSome (next_plan self.old) (λ plan. IsErrOf result WriteFail.Failed → files_of self.new ≡ cut_texts plan name.now (P.rest pieces.old) (files_of self.old)) }
+        ensures unplanned { IsNone (next_plan self.old) → ¬ IsErrOf result WriteFail.Failed }
+        ensures quiet { IsNone (next_plan self.old) → losses_of self.new ≡ losses_of self.old }
+        ensures called { Called self.old self.new }
+        ensures written { OnOk result (Some (files_of self.new) ≡ held_with name.now (P.rest pieces.old) (Some (files_of self.old))) }
+        ensures memory { IsErrOf result WriteFail.Memory → Some (files_of self.new) ≡ Some (files_of self.old) }
+        ensures cut { IsErrOf result WriteFail.Failed → KeepsOrCuts name.now (P.rest pieces.old) (Some (files_of self.old)) (Some (files_of self.new)) }
+        ensures failed { IsErrOf result WriteFail.Failed → Rose (losses_of self.old name.now) (losses_of self.new name.now) }
+        ensures losses { NoneFalls (losses_of self.old) (losses_of self.new) }
+        ensures faults { faults_of self.new ≡ faults_of self.old }
+        ensures misses { misses_of self.new ≡ misses_of self.old }
+        ensures larges { larges_of self.new ≡ larges_of self.old }
+        ensures end { OnOk result (P.rest pieces.new ≡ []) }
+        ensures left { OnErr result (IsSuffix (P.rest pieces.new) (P.rest pieces.old)) }
+    {
+        let plan = self.plan_call();
+        match gather(alloc, pieces) {
+            Ok(bytes) => self.write_planned(plan, name, bytes.as_slice()),
             Err(Memory) => Err(WriteFail::Memory),
         }
     }

@@ -1,24 +1,52 @@
-ghost use Rattle.std.specs.Prelude.{◌≡◌, ℕ, List, Option, IfSome, OnOk, IsErrOf};
-ghost use Rattle.up_store.specs.Outside.{Files, held_with, KeepsOrCuts, ReadAnswers, Rose, NoneFalls};
+ghost use Rattle.std.specs.Prelude.{◌≡◌, ℕ, List, [], Option, IfSome, OnOk, OnErr, IsErrOf};
+ghost use Rattle.up_store.specs.Outside.{Files, held_with, KeepsOrCuts, IsSuffix, ReadAnswers, Rose, NoneFalls};
 
-use crate::Word;
+use crate::{Pieces, Word};
 use std::alloc::Global;
+use thiserror::Error;
+use up_text::Memory;
 
 /// The longest text that a read gives, in bytes.
 pub const INPUT_LIMIT: usize = 16_777_216;
 
-#[derive(Clone, Copy, Debug, PartialEq, Eq)]
+/// Why a read gave no text.
+#[derive(Clone, Copy, Debug, PartialEq, Eq, Error)]
 pub enum ReadFail {
+    /// An allocation failed.
+    #[error("out of memory")]
     Memory,
+    /// The store failed.
+    #[error("the read failed")]
     Failed,
+    /// Nothing is held under the name.
+    #[error("no such file")]
     Missing,
+    /// The text has more than `INPUT_LIMIT` bytes.
+    #[error("the file is too large")]
     TooLarge,
 }
 
-#[derive(Clone, Copy, Debug, PartialEq, Eq)]
+impl From<Memory> for ReadFail {
+    fn from(_: Memory) -> ReadFail {
+        ReadFail::Memory
+    }
+}
+
+/// Why a write didn't put its text.
+#[derive(Clone, Copy, Debug, PartialEq, Eq, Error)]
 pub enum WriteFail {
+    /// An allocation failed, and nothing was written.
+    #[error("out of memory")]
     Memory,
+    /// The store failed, and a prefix of the text may stand.
+    #[error("the write failed")]
     Failed,
+}
+
+impl From<Memory> for WriteFail {
+    fn from(_: Memory) -> WriteFail {
+        WriteFail::Memory
+    }
 }
 
 /// Texts under names.
@@ -60,4 +88,22 @@ pub trait Store {
         ensures faults { faults self.new ≡ faults self.old }
         ensures misses { misses self.new ≡ misses self.old }
         ensures larges { larges self.new ≡ larges self.old };
+
+    /// Puts a text under a name, piece by piece. It is one call, and fails as `write` does.
+    fn write_pieces<P: Pieces>(
+        &mut self,
+        alloc: Global,
+        name: &Word,
+        pieces: &mut P,
+    ) -> Result<(), WriteFail>
+        ensures written { OnOk result (held self.new ≡ held_with name.now (P.rest pieces.old) (held self.old)) }
+        ensures memory { IsErrOf result WriteFail.Memory → held self.new ≡ held self.old }
+        ensures cut { IsErrOf result WriteFail.Failed → KeepsOrCuts name.now (P.rest pieces.old) (held self.old) (held self.new) }
+        ensures failed { IsErrOf result WriteFail.Failed → Rose (losses self.old name.now) (losses self.new name.now) }
+        ensures losses { NoneFalls (losses self.old) (losses self.new) }
+        ensures faults { faults self.new ≡ faults self.old }
+        ensures misses { misses self.new ≡ misses self.old }
+        ensures larges { larges self.new ≡ larges self.old }
+        ensures end { OnOk result (P.rest pieces.new ≡ []) }
+        ensures left { OnErr result (IsSuffix (P.rest pieces.new) (P.rest pieces.old)) };
 }

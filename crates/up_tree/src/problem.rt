@@ -1,4 +1,9 @@
-ghost use Rattle.std.specs.Prelude.{◌≡◌};
+ghost use Rattle.std.specs.Prelude.{◌≡◌, sum_by};
+ghost use Rattle.std.specs.Option.{option_copied};
+ghost use Rattle.up_tree.specs.Objects.{world, is_below, is_of, chain, type_in};
+ghost use Rattle.up_tree.specs.Sizes.{cut, action_size, problem_size};
+ghost use Rattle.up_text.specs.Names.{same_name};
+ghost use Rattle.std.specs.List.{list_any};
 
 use crate::action::Action;
 use crate::expr::Expr;
@@ -125,6 +130,69 @@ impl Problem {
         ensures { result.now ≡ self.now }
     {
         &self.parts
+    }
+
+    /// How many nodes its actions and its goal have, up to the greatest `u64`.
+    pub fn size(&self) -> u64
+        ensures { result ≡ cut (problem_size self.now) }
+    {
+        action_sizes(self.parts().actions.as_slice()).saturating_add(self.parts().goal.size())
+    }
+
+    /// Whether a type is `above` or stands below it.
+    pub fn is_below(&self, below: &Name, above: &Name) -> bool
+        ensures { result ≡ is_below (world self.now) below.now above.now }
+    {
+        let types = self.parts().types.as_slice();
+        reaches(types, types.len(), below, above)
+    }
+
+    /// Whether an object's type is `of` or stands below it.
+    pub fn is_of(&self, object: &Name, of: &Name) -> bool
+        ensures { result ≡ is_of (world self.now) object.now of.now }
+    {
+        match type_in(self.parts().objects.as_slice(), object) {
+            None => false,
+            Some(below) => self.is_below(below, of),
+        }
+    }
+}
+
+fn action_sizes(actions: &[Action]) -> u64
+    ensures { result ≡ cut (sum_by action_size actions.now) }
+{
+    let mut size = 0;
+    for action in actions {
+        size = action.size().saturating_add(size);
+    }
+    size
+}
+
+/// The type beside a name.
+fn type_in<'a>(entries: &'a [Typed], name: &Name) -> Option<&'a Name>
+    ensures { option_copied result ≡ type_in entries.now name.now }
+{
+    for entry in entries {
+        if &entry.name == name {
+            return Some(&entry.of);
+        }
+    }
+    None
+}
+
+/// Whether a type or one of its next parents, at most `left` of them, is `above`.
+fn reaches(types: &[Typed], left: usize, below: &Name, above: &Name) -> bool
+    ensures { result ≡ list_any (same_name above.now) (chain types.now left below.now) }
+{
+    if above == below {
+        return true;
+    }
+    if left == 0 {
+        return false;
+    }
+    match type_in(types, below) {
+        None => false,
+        Some(parent) => reaches(types, left - 1, parent, above),
     }
 }
 

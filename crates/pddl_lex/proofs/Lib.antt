@@ -1,0 +1,10 @@
+pub mod Lexing
+pub mod PlaceLemmas
+pub mod Reading
+pub mod Spelling
+pub mod Standing
+pub mod TokenLaws
+pub mod Bracketing
+pub mod Nested
+pub mod Literals
+pub mod Sizes

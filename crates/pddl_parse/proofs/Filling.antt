@@ -1,0 +1,85 @@
+-- One more part has been read, or one more section.
+use Rattle.std.proofs.Common.{◌≡◌, ℕ, ◌+◌, ◌<◌, length, List, [], ◌∷◌, ◌++◌, take, drop, get_or, refl, ap, sym, ◌∙◌}
+use Rattle.std.proofs.lemmas.List.{drop_more, take_more}
+use Rattle.std.specs.Prelude.{Some, false}
+use Rattle.pddl_lex.specs.Verdicts.{Verdict, fine, faulty, first, over, over_two}
+use Rattle.pddl_lex.specs.declared.tree.Sexp.{Sexp}
+use Rattle.pddl_parse.specs.declared.action.ActionParts.{ActionParts}
+use Rattle.pddl_parse.specs.declared.raw.DomainForm.{DomainForm}
+use Rattle.pddl_parse.specs.declared.action.ActionPart.{ActionPart}
+use Rattle.pddl_parse.specs.declared.section.DomainSection.{DomainSection}
+use Rattle.pddl_parse.specs.declared.section.ProblemSection.{ProblemSection}
+use Rattle.pddl_parse.specs.declared.problem.ProblemParts.{ProblemParts}
+use Rattle.pddl_parse.specs.declared.shape.ShapeError.{ShapeError}
+use Rattle.pddl_parse.specs.Shapes.{Read}
+use Rattle.pddl_parse.specs.Sections.{domain_section, domain_sections, problem_section, problem_sections}
+use Rattle.pddl_parse.proofs.Steps.{first_over, first_two}
+use Rattle.up_text.specs.declared.place.Place.{Place}
+use Rattle.pddl_parse.specs.declared.action.ActionKeys.{ActionKeys}
+use Rattle.pddl_parse.specs.Actions.{put, filled, fresh_key, lacks_value, parts}
+use Rattle.pddl_parse.specs.Texts.{with_section, with_sections, put_section, put_sections, whole}
+
+pub filled_more : (a : ActionParts) (p : ActionPart) (v : Read (List ActionPart))
+    → over (filled a) (over (λ ps. p ∷ ps) v) ≡ over (filled (put a p)) v
+filled_more a p (fine ps) = refl
+filled_more a p (faulty f fs) = refl
+
+pub sections_more : (form : DomainForm) (s : DomainSection) (v : Read (List DomainSection))
+    → over (with_sections form) (over (λ ss. s ∷ ss) v) ≡ over (with_sections (with_section form s)) v
+sections_more form s (fine ss) = refl
+sections_more form s (faulty f fs) = refl
+
+pub put_more : (parts : ProblemParts) (s : ProblemSection) (v : Read (List ProblemSection))
+    → over (put_sections parts) (over (λ ss. s ∷ ss) v) ≡ over (put_sections (put_section parts s)) v
+put_more parts s (fine ss) = refl
+put_more parts s (faulty f fs) = refl
+
+-- the same in a loop, which stands at an index
+pub domain_on : (items : List Sexp) (at : ℕ) (form form_more : DomainForm) (x : Sexp) (s : DomainSection)
+    → at < length items → x ≡ get_or items at x → domain_section (take at items) x ≡ fine s → form_more ≡ with_section form s
+    → over (with_sections form) (domain_sections (take at items) (drop at items))
+    ≡ over (with_sections form_more) (domain_sections (take (at + 1) items) (drop (at + 1) items))
+domain_on items at form form_more x s within is e more =
+    rw (more, take_more items at x within, drop_more items at x within, ← is, e) (sections_more form s _)
+
+pub domain_off : (items : List Sexp) (at : ℕ) (form : DomainForm) (x : Sexp) (fault : ShapeError)
+    → at < length items → x ≡ get_or items at x → first (domain_section (take at items) x) ≡ Some fault
+    → first (over (with_sections form) (domain_sections (take at items) (drop at items))) ≡ Some fault
+domain_off items at form x fault within is e =
+    rw (drop_more items at x within, ← is) (first_over _ _ ∙ first_two _ (domain_section (take at items) x) _ fault e)
+
+pub problem_on : (items : List Sexp) (at : ℕ) (parts parts_more : ProblemParts) (x : Sexp) (s : ProblemSection)
+    → at < length items → x ≡ get_or items at x → problem_section (take at items) x ≡ fine s → parts_more ≡ put_section parts s
+    → over (put_sections parts) (problem_sections (take at items) (drop at items))
+    ≡ over (put_sections parts_more) (problem_sections (take (at + 1) items) (drop (at + 1) items))
+problem_on items at parts parts_more x s within is e more =
+    rw (more, take_more items at x within, drop_more items at x within, ← is, e) (put_more parts s _)
+
+pub problem_off : (items : List Sexp) (at : ℕ) (parts : ProblemParts) (x : Sexp) (fault : ShapeError)
+    → at < length items → x ≡ get_or items at x → first (problem_section (take at items) x) ≡ Some fault
+    → first (over (put_sections parts) (problem_sections (take at items) (drop at items))) ≡ Some fault
+problem_off items at parts x fault within is e =
+    rw (drop_more items at x within, ← is) (first_over _ _ ∙ first_two _ (problem_section (take at items) x) _ fault e)
+
+pub drop_all : {A : Type 0} (items : List A) → drop (length items) items ≡ []
+drop_all [] = refl
+drop_all (x ∷ xs) = drop_all xs
+
+-- at a key that is unknown or has stood, or at a tree that is no key
+pub lacks_stale : (keys : ActionKeys) (tree : Sexp) (behind : List Sexp) (fault : ShapeError)
+    → fresh_key keys tree ≡ faulty fault [] → lacks_value keys (tree ∷ behind) ≡ false
+lacks_stale keys tree [] fault e = rw e refl
+lacks_stale keys tree (value ∷ behind) fault e = rw e refl
+
+pub parts_stale : (place : Place) (keys : ActionKeys) (tree : Sexp) (behind : List Sexp) (fault : ShapeError)
+    → fresh_key keys tree ≡ faulty fault [] → first (parts place keys (tree ∷ behind)) ≡ Some fault
+parts_stale place keys tree [] fault e = rw e refl
+parts_stale place keys tree (value ∷ behind) fault e = rw e refl
+
+pub first_whole : (place : Place) (v : Read ProblemParts) (fault : ShapeError) → first v ≡ Some fault → first (whole place v) ≡ Some fault
+first_whole place (fine parts) fault e = cc
+first_whole place (faulty f fs) fault e = e
+
+pub ruleset filling = (filled_more, domain_on, domain_off, problem_on, problem_off, drop_all, first_over, first_two)
+
+pub ruleset pairing = (lacks_stale, parts_stale, filled_more, first_over, first_two)

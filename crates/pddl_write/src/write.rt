@@ -1,0 +1,86 @@
+ghost use Rattle.std.specs.Prelude.{◌≡◌, IfOk};
+ghost use Rattle.pddl_write.specs.Files.{pieces_of_domain, pieces_of_problem, domain_text, problem_text, declares_type};
+ghost use Rattle.pddl_write.specs.Walks.{domain_left, problem_left};
+ghost use Rattle.pddl_write.specs.Pieces.{domain_bytes, problem_bytes};
+
+use crate::domain::{DomainPlace, DomainSteps};
+use crate::domain_piecewise::DomainPieces;
+use crate::problem::{ProblemPlace, ProblemSteps};
+use crate::problem_piecewise::ProblemPieces;
+use std::alloc::Global;
+use up_kind::kind_of;
+use up_line::whole_text;
+use up_text::Memory;
+use up_tree::{Parts, Problem};
+
+fn domain_steps(p: &Problem) -> DomainSteps<'_>
+    ensures { domain_left result ≡ pieces_of_domain p.now }
+{
+    DomainSteps {
+        parts: p.parts(),
+        kind: kind_of(p),
+        place: DomainPlace::Define,
+    }
+}
+
+fn declares_type(parts: &Parts) -> bool
+    ensures { result ≡ declares_type parts.now }
+{
+    match parts.types.as_slice().split_first() {
+        None => false,
+        Some(_) => true,
+    }
+}
+
+#[tactic(auto, unfolding(crate::specs::Files::pieces_of_problem))]
+fn problem_steps(p: &Problem) -> ProblemSteps<'_>
+    ensures { problem_left result ≡ pieces_of_problem p.now }
+{
+    let parts = p.parts();
+    ProblemSteps {
+        parts,
+        typed: declares_type(parts),
+        place: ProblemPlace::Define,
+    }
+}
+
+/// The pieces of the problem's domain as PDDL text (PDDL 2.1, Fox and Long 2003, and 3.1). Room for the longest of
+/// them is taken here, and none later.
+///
+/// Errors: `Memory` where that room can't be had.
+#[tactic(auto, unfolding(crate::specs::Files::domain_text))]
+pub fn domain_pieces<'p>(alloc: Global, p: &'p Problem) -> Result<DomainPieces<'p>, Memory>
+    ensures { IfOk result (λ d. domain_bytes d ≡ domain_text p.now) }
+{
+    DomainPieces::new(alloc, domain_steps(p))
+}
+
+/// The pieces of the problem as PDDL text, as those of `domain_pieces`.
+///
+/// Errors: `Memory` where the room for the longest piece can't be had.
+#[tactic(auto, unfolding(crate::specs::Files::problem_text))]
+pub fn problem_pieces<'p>(alloc: Global, p: &'p Problem) -> Result<ProblemPieces<'p>, Memory>
+    ensures { IfOk result (λ d. problem_bytes d ≡ problem_text p.now) }
+{
+    ProblemPieces::new(alloc, problem_steps(p))
+}
+
+/// The problem's domain as PDDL text: one line for each action.
+///
+/// Errors: `Memory` where the text finds no room.
+#[tactic(auto, unfolding(crate::specs::Files::domain_text))]
+pub fn write_domain(alloc: Global, p: &Problem) -> Result<Vec<u8>, Memory>
+    ensures { IfOk result (λ text. text.items ≡ domain_text p.now) }
+{
+    whole_text(alloc, domain_steps(p))
+}
+
+/// The problem as PDDL text, without its domain.
+///
+/// Errors: `Memory` where the text finds no room.
+#[tactic(auto, unfolding(crate::specs::Files::problem_text))]
+pub fn write_problem(alloc: Global, p: &Problem) -> Result<Vec<u8>, Memory>
+    ensures { IfOk result (λ text. text.items ≡ problem_text p.now) }
+{
+    whole_text(alloc, problem_steps(p))
+}

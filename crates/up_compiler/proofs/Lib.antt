@@ -1,0 +1,5 @@
+pub mod Composed
+pub mod Kept
+pub mod Lists
+pub mod Rows
+pub mod Unchanged

@@ -1,0 +1,127 @@
+use crate::steps::put_entry;
+use crate::{Map, map_pieces, write_map};
+use std::alloc::Global;
+use up_compiler::{Chain, CompilerId, Entry, Item, Target, identity};
+use up_line::Line;
+use up_store::Pieces;
+use up_text::{List, Memory, Name};
+use up_tree::{Action, Formula, Parts, Problem, Typed};
+
+const LINES: [&str; 6] = [
+    "up-map 1\n",
+    "chain overlaps negations\n",
+    "action move 2 keep move $1 $2\n",
+    "action pick 2 keep pick $1 $2\n",
+    "action drop 2 keep drop $1 $2\n",
+    "end\n",
+];
+
+fn name(alloc: Global, text: &str) -> Result<Name, Memory> {
+    match Name::of_bytes(alloc, text.as_bytes())? {
+        Some(name) => Ok(name),
+        None => Err(Memory),
+    }
+}
+
+fn list<T: Drop, const N: usize>(alloc: Global, items: [T; N]) -> Result<List<T>, Memory> {
+    Ok(List::from_vec(Vec::from_array(alloc, items)?))
+}
+
+fn parameter(alloc: Global, text: &str) -> Result<Typed, Memory> {
+    Ok(Typed {
+        name: name(alloc, text)?,
+        of: name(alloc, "object")?,
+    })
+}
+
+fn action(alloc: Global, text: &str) -> Result<Action, Memory> {
+    Ok(Action {
+        name: name(alloc, text)?,
+        params: list(alloc, [parameter(alloc, "a")?, parameter(alloc, "b")?])?,
+        pre: Formula::And(List::new(alloc)),
+        rows: List::new(alloc),
+    })
+}
+
+fn problem(alloc: Global) -> Result<Problem, Memory> {
+    let actions = [
+        action(alloc, "move")?,
+        action(alloc, "pick")?,
+        action(alloc, "drop")?,
+    ];
+    Ok(Problem::new(Parts {
+        domain: name(alloc, "gripper")?,
+        name: name(alloc, "two-rooms")?,
+        types: List::new(alloc),
+        constants: 0,
+        objects: List::new(alloc),
+        predicates: List::new(alloc),
+        functions: List::new(alloc),
+        atoms: List::new(alloc),
+        numbers: List::new(alloc),
+        values: List::new(alloc),
+        actions: list(alloc, actions)?,
+        goal: Formula::And(List::new(alloc)),
+        metric: None,
+        constraints: List::new(alloc),
+    }))
+}
+
+fn map(alloc: Global) -> Result<Map, Memory> {
+    Ok(Map {
+        stages: Chain {
+            stages: list(alloc, [CompilerId::Overlaps, CompilerId::Negations])?,
+        },
+        back: identity(alloc, &problem(alloc)?)?,
+    })
+}
+
+#[test]
+fn a_map_is_written(rt: HostRuntime) {
+    let alloc = rt.alloc();
+    let map = map(alloc).expect(&rt, "a map");
+    let text = write_map(alloc, &map).expect(&rt, "a text");
+    let mut want = Vec::new(alloc);
+    let mut pieces = map_pieces(alloc, &map).expect(&rt, "pieces");
+    for line in LINES {
+        assert!(rt; pieces.advance());
+        assert_eq!(rt; pieces.piece(), line.as_bytes());
+        want.extend_from_slice(line.as_bytes()).expect(&rt, "room");
+    }
+    assert!(rt; !pieces.advance());
+    assert_eq!(rt; text.as_slice(), want.as_slice());
+}
+
+fn walked(alloc: Global) -> Result<Entry, Memory> {
+    let objects = [
+        Item::Object(name(alloc, "n1")?),
+        Item::Object(name(alloc, "n2")?),
+    ];
+    Ok(Entry {
+        action: name(alloc, "walk-n1-n2")?,
+        arity: 0,
+        target: Target::Keep(name(alloc, "walk")?, list(alloc, objects)?),
+    })
+}
+
+fn reached(alloc: Global) -> Result<Entry, Memory> {
+    Ok(Entry {
+        action: name(alloc, "reach-goal")?,
+        arity: 0,
+        target: Target::Drop,
+    })
+}
+
+#[test]
+fn entries(rt: HostRuntime) {
+    let alloc = rt.alloc();
+    for (entry, want) in [
+        (walked(alloc), "action walk-n1-n2 0 keep walk n1 n2\n"),
+        (reached(alloc), "action reach-goal 0 drop\n"),
+    ] {
+        let entry = entry.expect(&rt, "an entry");
+        let mut line = Line::with_room(alloc, 60).expect(&rt, "room");
+        put_entry(&mut line, &entry);
+        assert_eq!(rt; line.bytes(), want.as_bytes());
+    }
+}

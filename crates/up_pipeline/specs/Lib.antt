@@ -1,0 +1,4 @@
+pub mod Chains
+pub mod Document
+pub mod Engine
+pub mod Search
