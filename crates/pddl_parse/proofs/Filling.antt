@@ -48,12 +48,18 @@ pub domain_off : (items : List Sexp) (at : ℕ) (form : DomainForm) (x : Sexp) (
 domain_off items at form x fault within is e =
     rw (drop_more items at x within, ← is) (first_over _ _ ∙ first_two _ (domain_section (take at items) x) _ fault e)
 
-pub problem_on : (items : List Sexp) (at : ℕ) (parts parts_more : ProblemParts) (x : Sexp) (s : ProblemSection)
-    → at < length items → x ≡ get_or items at x → problem_section (take at items) x ≡ fine s → parts_more ≡ put_section parts s
+pub put_next_more : (parts parts_more : ProblemParts) (v : Read ProblemSection) (w : Read (List ProblemSection))
+    → over (put_section parts) v ≡ fine parts_more
+    → over (put_sections parts) (over_two (λ s ss. s ∷ ss) v w) ≡ over (put_sections parts_more) w
+put_next_more parts parts_more (fine s) w e = let same : put_section parts s ≡ parts_more = cc in rw (← same) (put_more parts s w)
+put_next_more parts parts_more (faulty f fs) w e = cc
+
+pub problem_on : (items : List Sexp) (at : ℕ) (parts parts_more : ProblemParts) (x : Sexp)
+    → at < length items → x ≡ get_or items at x → over (put_section parts) (problem_section (take at items) x) ≡ fine parts_more
     → over (put_sections parts) (problem_sections (take at items) (drop at items))
     ≡ over (put_sections parts_more) (problem_sections (take (at + 1) items) (drop (at + 1) items))
-problem_on items at parts parts_more x s within is e more =
-    rw (more, take_more items at x within, drop_more items at x within, ← is, e) (put_more parts s _)
+problem_on items at parts parts_more x within is e =
+    rw (take_more items at x within, drop_more items at x within, ← is) (put_next_more parts parts_more (problem_section (take at items) x) _ e)
 
 pub problem_off : (items : List Sexp) (at : ℕ) (parts : ProblemParts) (x : Sexp) (fault : ShapeError)
     → at < length items → x ≡ get_or items at x → first (problem_section (take at items) x) ≡ Some fault
@@ -80,6 +86,8 @@ pub first_whole : (place : Place) (v : Read ProblemParts) (fault : ShapeError) �
 first_whole place (fine parts) fault e = cc
 first_whole place (faulty f fs) fault e = e
 
-pub ruleset filling = (filled_more, domain_on, domain_off, problem_on, problem_off, drop_all, first_over, first_two)
+pub ruleset filling = (filled_more, domain_on, domain_off, drop_all, first_over, first_two)
+
+pub ruleset putting = (problem_on, problem_off, drop_all, first_over, first_two)
 
 pub ruleset pairing = (lacks_stale, parts_stale, filled_more, first_over, first_two)

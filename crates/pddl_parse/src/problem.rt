@@ -1,6 +1,6 @@
 ghost use Rattle.std.specs.Prelude.{◌≡◌, [], Some, IfOk, IfErr};
 ghost use Rattle.pddl_lex.specs.Verdicts.{fine, first, over};
-ghost use Rattle.pddl_parse.specs.Sections.{problem_sections};
+ghost use Rattle.pddl_parse.specs.Sections.{problem_section, problem_sections};
 ghost use Rattle.pddl_parse.specs.Texts.{bare_problem, put_section, put_sections, complete, whole, lacks_section, in_problem_text, problem_text, problem};
 
 use crate::bracket::has_section;
@@ -71,7 +71,23 @@ fn put_section(parts: ProblemParts, section: ProblemSection) -> ProblemParts
     }
 }
 
-#[tactic(auto, using(crate::proofs::Steps::steps, crate::proofs::Filling::filling))]
+// One more section: the parts are handed on, so that a fault leaves none to be dropped in the loop.
+fn put_next(
+    alloc: Global,
+    parts: ProblemParts,
+    before: &[Sexp],
+    item: &Sexp,
+) -> Result<ProblemParts, ShapeError>
+    ensures ok { IfOk result (λ it. over (put_section parts) (problem_section before.now item.now) ≡ fine it) }
+    ensures err { IfErr result (λ e. ¬ (e ≡ ShapeError.Memory) → first (problem_section before.now item.now) ≡ Some e) }
+{
+    match problem_section(alloc, before, item) {
+        Ok(section) => Ok(put_section(parts, section)),
+        Err(fault) => Err(fault),
+    }
+}
+
+#[tactic(auto, using(crate::proofs::Steps::steps, crate::proofs::Filling::putting))]
 fn put_sections(
     alloc: Global,
     start: ProblemParts,
@@ -82,8 +98,7 @@ fn put_sections(
 {
     let mut parts = start;
     for at in 0..items.len() {
-        let section = problem_section(alloc, &items[..at], &items[at])?;
-        parts = put_section(parts, section);
+        parts = put_next(alloc, parts, &items[..at], &items[at])?;
     }
     Ok(parts)
 }
