@@ -1,0 +1,126 @@
+use crate::fault::Fault;
+use crate::formula::checked_formula;
+use crate::names::Names;
+use crate::scope::{Binder, Scope};
+use crate::term::Setting;
+use pddl_parse::{RawConstraint, RawFormula, RawGroup};
+use std::alloc::Global;
+use up_text::List;
+use up_tree::{Constraint, Formula, Rule};
+
+// The walk over nested constraints, which lists the simple ones.
+#[derive(Drop)]
+struct Flattening {
+    scope: Scope,
+    constraints: List<Constraint>,
+}
+
+impl Flattening {
+    #[cycle(constraint)]
+    fn constraint(
+        &mut self,
+        alloc: Global,
+        names: &Names,
+        raw: &RawConstraint,
+    ) -> Result<(), Fault> {
+        match raw {
+            RawConstraint::And(members) => self.constraints(alloc, names, members.as_slice()),
+            RawConstraint::Forall(groups, body) => {
+                self.for_all(alloc, names, groups.as_slice(), body.get())
+            }
+            RawConstraint::Always(f) => {
+                let f = self.formula(alloc, names, f.get())?;
+                self.push(alloc, Rule::Always(f))
+            }
+            RawConstraint::Sometime(f) => {
+                let f = self.formula(alloc, names, f.get())?;
+                self.push(alloc, Rule::Sometime(f))
+            }
+            RawConstraint::AtMostOnce(f) => {
+                let f = self.formula(alloc, names, f.get())?;
+                self.push(alloc, Rule::AtMostOnce(f))
+            }
+            RawConstraint::SometimeAfter(f, g) => {
+                let (f, g) = self.formulas(alloc, names, f.get(), g.get())?;
+                self.push(alloc, Rule::SometimeAfter(f, g))
+            }
+            RawConstraint::SometimeBefore(f, g) => {
+                let (f, g) = self.formulas(alloc, names, f.get(), g.get())?;
+                self.push(alloc, Rule::SometimeBefore(f, g))
+            }
+        }
+    }
+
+    #[cycle(constraint)]
+    fn constraints(
+        &mut self,
+        alloc: Global,
+        names: &Names,
+        members: &[RawConstraint],
+    ) -> Result<(), Fault> {
+        for member in members {
+            self.constraint(alloc, names, member)?;
+        }
+        Ok(())
+    }
+
+    #[cycle(constraint)]
+    fn for_all(
+        &mut self,
+        alloc: Global,
+        names: &Names,
+        groups: &[RawGroup],
+        body: &RawConstraint,
+    ) -> Result<(), Fault> {
+        let outer = self.scope.len();
+        self.scope.enter(alloc, names, Binder::Plain, groups)?;
+        self.constraint(alloc, names, body)?;
+        self.scope.leave(outer);
+        Ok(())
+    }
+
+    fn formula(
+        &mut self,
+        alloc: Global,
+        names: &Names,
+        raw: &RawFormula,
+    ) -> Result<Formula, Fault> {
+        checked_formula(alloc, names, &mut self.scope, Setting::Constraint, raw)
+    }
+
+    fn formulas(
+        &mut self,
+        alloc: Global,
+        names: &Names,
+        f: &RawFormula,
+        g: &RawFormula,
+    ) -> Result<(Formula, Formula), Fault> {
+        let f = self.formula(alloc, names, f)?;
+        let g = self.formula(alloc, names, g)?;
+        Ok((f, g))
+    }
+
+    fn push(&mut self, alloc: Global, rule: Rule) -> Result<(), Fault> {
+        let vars = self.scope.since(alloc, 0)?;
+        self.constraints.push(Constraint { vars, rule })?;
+        Ok(())
+    }
+}
+
+/// Appends the constraints of a section.
+///
+/// A constraint's variables are those of the `forall`s around it, from the outside in. Faults come from left to right and from the
+/// outside in.
+pub fn push_constraints(
+    alloc: Global,
+    names: &Names,
+    raw: &RawConstraint,
+    into: List<Constraint>,
+) -> Result<List<Constraint>, Fault> {
+    let mut flattening = Flattening {
+        scope: Scope::new(alloc),
+        constraints: into,
+    };
+    flattening.constraint(alloc, names, raw)?;
+    Ok(flattening.constraints)
+}
