@@ -8,22 +8,46 @@ use crate::metric::checked_metric;
 use crate::names::{Names, Signature};
 use crate::reason::Reason;
 use indexmap::{IndexMap, IndexSet};
-use pddl_parse::{Ident, ProblemForm, RawMetric};
+use pddl_parse::{Ident, ProblemForm, RawFormula, RawInit, RawMetric};
 use std::alloc::Global;
 use up_frac::Frac;
-use up_text::{List, Memory, Name};
+use up_text::{Box, List, Memory, Name};
 use up_tree::{
     Action, Constraint, Fact, Formula, Function, Metric, NumberFact, Parts, Predicate, Problem,
     Typed, ValueFact,
 };
 
-/// What a problem text adds to a domain's names and actions.
+// What a problem text adds to what is declared. Boxes keep what is dropped at a fault small.
 #[derive(Drop)]
 struct Rest {
-    init: Init,
-    goal: Formula,
+    init: InitLists,
+    goal: Box<Formula>,
     constraints: List<Constraint>,
-    metric: Option<Metric>,
+    metric: Option<Box<Metric>>,
+}
+
+// The initial state as a problem holds it.
+#[derive(Drop)]
+struct InitLists {
+    atoms: List<Fact>,
+    numbers: List<NumberFact>,
+    values: List<ValueFact>,
+}
+
+// What is declared as a problem holds it.
+#[derive(Drop)]
+struct Declared {
+    types: List<Typed>,
+    objects: List<Typed>,
+    predicates: List<Predicate>,
+    functions: List<Function>,
+}
+
+// The names of a domain and a problem.
+#[derive(Drop)]
+struct Titles {
+    domain: Name,
+    problem: Name,
 }
 
 /// The problem of a form, by its sections in the order `:domain`, objects, init, goal, constraints, metric.
@@ -32,17 +56,10 @@ pub fn checked_problem(
     domain: Domain,
     form: &ProblemForm,
 ) -> Result<Problem, Fault> {
-    let Domain {
-        name,
-        names,
-        actions,
-        constraints,
-    } = domain;
-    check_domain(alloc, &name, &form.domain)?;
-    let constants = names.objects.len();
-    let names = with_objects(alloc, names, form)?;
-    let rest = checked_rest(alloc, &names, constraints, form)?;
-    Ok(problem_of(alloc, name, constants, names, actions, rest, form)?)
+    match check_domain(alloc, &domain.name, &form.domain) {
+        Ok(()) => in_domain(alloc, domain, form),
+        Err(fault) => Err(fault),
+    }
 }
 
 // Answers `WrongDomain` at the name of another domain.
@@ -50,8 +67,28 @@ fn check_domain(alloc: Global, name: &Name, stated: &Ident) -> Result<(), Fault>
     if &stated.name == name {
         Ok(())
     } else {
-        Err(named(alloc, stated.place, Reason::WrongDomain, &stated.name))
+        Err(named(
+            alloc,
+            stated.place,
+            Reason::WrongDomain,
+            &stated.name,
+        ))
     }
+}
+
+fn in_domain(alloc: Global, domain: Domain, form: &ProblemForm) -> Result<Problem, Fault> {
+    let Domain {
+        names,
+        actions,
+        constraints,
+        ..
+    } = domain;
+    let constants = names.objects.len();
+    let names = with_objects(alloc, names, form)?;
+    let rest = checked_rest(alloc, &names, constraints, form)?;
+    let declared = declared_lists(alloc, names)?;
+    let titles = titles_of(alloc, form)?;
+    Ok(problem_of(titles, constants, declared, actions, rest))
 }
 
 fn with_objects(alloc: Global, names: Names, form: &ProblemForm) -> Result<Names, Fault> {
@@ -68,10 +105,10 @@ fn checked_rest(
     constraints: List<Constraint>,
     form: &ProblemForm,
 ) -> Result<Rest, Fault> {
-    let init = checked_init(alloc, names, form.init.as_slice())?;
-    let goal = checked_goal(alloc, names, &form.goal)?;
+    let init = init_of(alloc, names, form.init.as_slice())?;
+    let goal = goal_of(alloc, names, &form.goal)?;
     let constraints = push_constraints(alloc, names, &form.constraints, constraints)?;
-    let metric = checked_metric_of(alloc, names, &form.metric)?;
+    let metric = metric_of(alloc, names, &form.metric)?;
     Ok(Rest {
         init,
         goal,
@@ -80,59 +117,89 @@ fn checked_rest(
     })
 }
 
-fn checked_metric_of(
+fn init_of(alloc: Global, names: &Names, members: &[RawInit]) -> Result<InitLists, Fault> {
+    let init = checked_init(alloc, names, members)?;
+    Ok(init_lists(alloc, init)?)
+}
+
+fn goal_of(alloc: Global, names: &Names, goal: &RawFormula) -> Result<Box<Formula>, Fault> {
+    Ok(Box::new(alloc, checked_goal(alloc, names, goal)?)?)
+}
+
+fn metric_of(
     alloc: Global,
     names: &Names,
     metric: &Option<RawMetric>,
-) -> Result<Option<Metric>, Fault> {
+) -> Result<Option<Box<Metric>>, Fault> {
     match metric {
         None => Ok(None),
-        Some(raw) => Ok(Some(checked_metric(alloc, names, raw)?)),
+        Some(raw) => Ok(Some(Box::new(alloc, checked_metric(alloc, names, raw)?)?)),
     }
 }
 
+// The domain is the one that the form names.
+fn titles_of(alloc: Global, form: &ProblemForm) -> Result<Titles, Memory> {
+    Ok(Titles {
+        domain: form.domain.name.copy(alloc)?,
+        problem: form.name.name.copy(alloc)?,
+    })
+}
+
 fn problem_of(
-    alloc: Global,
-    domain: Name,
+    titles: Titles,
     constants: usize,
-    names: Names,
+    declared: Declared,
     actions: List<Action>,
     rest: Rest,
-    form: &ProblemForm,
-) -> Result<Problem, Memory> {
+) -> Problem {
+    let metric = match rest.metric {
+        None => None,
+        Some(metric) => Some(metric.into_inner()),
+    };
+    Problem::new(Parts {
+        domain: titles.domain,
+        name: titles.problem,
+        types: declared.types,
+        constants,
+        objects: declared.objects,
+        predicates: declared.predicates,
+        functions: declared.functions,
+        atoms: rest.init.atoms,
+        numbers: rest.init.numbers,
+        values: rest.init.values,
+        actions,
+        goal: rest.goal.into_inner(),
+        metric,
+        constraints: rest.constraints,
+    })
+}
+
+fn declared_lists(alloc: Global, names: Names) -> Result<Declared, Memory> {
     let Names {
         types,
         objects,
         predicates,
         functions,
     } = names;
-    let Rest {
-        init,
-        goal,
-        constraints,
-        metric,
-    } = rest;
+    Ok(Declared {
+        types: typed_of(alloc, types)?,
+        objects: typed_of(alloc, objects)?,
+        predicates: predicates_of(alloc, predicates)?,
+        functions: functions_of(alloc, functions)?,
+    })
+}
+
+fn init_lists(alloc: Global, init: Init) -> Result<InitLists, Memory> {
     let Init {
         atoms,
         numbers,
         values,
     } = init;
-    Ok(Problem::new(Parts {
-        domain,
-        name: form.name.name.copy(alloc)?,
-        types: typed_of(alloc, types)?,
-        constants,
-        objects: typed_of(alloc, objects)?,
-        predicates: predicates_of(alloc, predicates)?,
-        functions: functions_of(alloc, functions)?,
+    Ok(InitLists {
         atoms: facts_of(alloc, atoms)?,
         numbers: number_facts_of(alloc, numbers)?,
         values: value_facts_of(alloc, values)?,
-        actions,
-        goal,
-        metric,
-        constraints,
-    }))
+    })
 }
 
 fn typed_of(alloc: Global, table: IndexMap<Name, Name>) -> Result<List<Typed>, Memory> {
