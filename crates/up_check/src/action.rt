@@ -1,24 +1,51 @@
 use crate::effect::checked_rows;
 use crate::fault::Fault;
-use crate::formula::checked_formula;
+use crate::formula::boxed_formula;
 use crate::names::Names;
 use crate::scope::{Binder, Scope};
 use crate::term::Setting;
-use pddl_parse::RawAction;
+use pddl_parse::{RawAction, RawGroup};
 use std::alloc::Global;
-use up_tree::Action;
+use up_text::{Box, List, Memory, Name};
+use up_tree::{Action, Formula, Row, Typed};
+
+fn with_parameters(alloc: Global, names: &Names, groups: &[RawGroup]) -> Result<Scope, Fault> {
+    let mut scope = Scope::new(alloc);
+    scope.enter(alloc, names, Binder::Plain, groups)?;
+    Ok(scope)
+}
+
+fn with_effect(
+    alloc: Global,
+    names: &Names,
+    scope: Scope,
+    pre: Box<Formula>,
+    raw: &RawAction,
+) -> Result<Action, Fault> {
+    let params = scope.since(alloc, 0)?;
+    let rows = checked_rows(alloc, names, scope, &raw.effect)?;
+    Ok(with_name(alloc, &raw.name.name, params, pre, rows)?)
+}
+
+fn with_name(
+    alloc: Global,
+    name: &Name,
+    params: List<Typed>,
+    pre: Box<Formula>,
+    rows: List<Row>,
+) -> Result<Action, Memory> {
+    let name = name.copy(alloc)?;
+    Ok(Action {
+        name,
+        params,
+        pre: pre.into_inner(),
+        rows,
+    })
+}
 
 /// An action, whose own name isn't looked at: parameters, then precondition, then effect.
 pub fn checked_action(alloc: Global, names: &Names, raw: &RawAction) -> Result<Action, Fault> {
-    let mut scope = Scope::new(alloc);
-    scope.enter(alloc, names, Binder::Plain, raw.params.as_slice())?;
-    let params = scope.since(alloc, 0)?;
-    let pre = checked_formula(alloc, names, &mut scope, Setting::Plain, &raw.pre)?;
-    let rows = checked_rows(alloc, names, scope, &raw.effect)?;
-    Ok(Action {
-        name: raw.name.name.copy(alloc)?,
-        params,
-        pre,
-        rows,
-    })
+    let mut scope = with_parameters(alloc, names, raw.params.as_slice())?;
+    let pre = boxed_formula(alloc, names, &mut scope, Setting::Plain, &raw.pre)?;
+    with_effect(alloc, names, scope, pre, raw)
 }

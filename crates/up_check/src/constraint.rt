@@ -28,25 +28,14 @@ impl Flattening {
             RawConstraint::Forall(groups, body) => {
                 self.for_all(alloc, names, groups.as_slice(), body.get())
             }
-            RawConstraint::Always(f) => {
-                let f = self.formula(alloc, names, f.get())?;
-                self.push(alloc, Rule::Always(f))
-            }
-            RawConstraint::Sometime(f) => {
-                let f = self.formula(alloc, names, f.get())?;
-                self.push(alloc, Rule::Sometime(f))
-            }
-            RawConstraint::AtMostOnce(f) => {
-                let f = self.formula(alloc, names, f.get())?;
-                self.push(alloc, Rule::AtMostOnce(f))
-            }
+            RawConstraint::Always(f) => self.always(alloc, names, f.get()),
+            RawConstraint::Sometime(f) => self.sometime(alloc, names, f.get()),
+            RawConstraint::AtMostOnce(f) => self.at_most_once(alloc, names, f.get()),
             RawConstraint::SometimeAfter(f, g) => {
-                let (f, g) = self.formulas(alloc, names, f.get(), g.get())?;
-                self.push(alloc, Rule::SometimeAfter(f, g))
+                self.sometime_after(alloc, names, f.get(), g.get())
             }
             RawConstraint::SometimeBefore(f, g) => {
-                let (f, g) = self.formulas(alloc, names, f.get(), g.get())?;
-                self.push(alloc, Rule::SometimeBefore(f, g))
+                self.sometime_before(alloc, names, f.get(), g.get())
             }
         }
     }
@@ -88,16 +77,43 @@ impl Flattening {
         checked_formula(alloc, names, &mut self.scope, Setting::Constraint, raw)
     }
 
-    fn formulas(
+    fn always(&mut self, alloc: Global, names: &Names, f: &RawFormula) -> Result<(), Fault> {
+        let f = self.formula(alloc, names, f)?;
+        self.push(alloc, Rule::Always(f))
+    }
+
+    fn sometime(&mut self, alloc: Global, names: &Names, f: &RawFormula) -> Result<(), Fault> {
+        let f = self.formula(alloc, names, f)?;
+        self.push(alloc, Rule::Sometime(f))
+    }
+
+    fn at_most_once(&mut self, alloc: Global, names: &Names, f: &RawFormula) -> Result<(), Fault> {
+        let f = self.formula(alloc, names, f)?;
+        self.push(alloc, Rule::AtMostOnce(f))
+    }
+
+    fn sometime_after(
         &mut self,
         alloc: Global,
         names: &Names,
         f: &RawFormula,
         g: &RawFormula,
-    ) -> Result<(Formula, Formula), Fault> {
+    ) -> Result<(), Fault> {
         let f = self.formula(alloc, names, f)?;
         let g = self.formula(alloc, names, g)?;
-        Ok((f, g))
+        self.push(alloc, Rule::SometimeAfter(f, g))
+    }
+
+    fn sometime_before(
+        &mut self,
+        alloc: Global,
+        names: &Names,
+        f: &RawFormula,
+        g: &RawFormula,
+    ) -> Result<(), Fault> {
+        let f = self.formula(alloc, names, f)?;
+        let g = self.formula(alloc, names, g)?;
+        self.push(alloc, Rule::SometimeBefore(f, g))
     }
 
     fn push(&mut self, alloc: Global, rule: Rule) -> Result<(), Fault> {

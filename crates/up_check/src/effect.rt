@@ -194,22 +194,12 @@ impl Flattening {
             RawEffect::When(condition, body) => {
                 self.conditional(alloc, names, condition, body.get())
             }
-            RawEffect::Add(atom) => {
-                let effect = added(alloc, names, &self.scope, atom)?;
-                self.push(alloc, effect)
-            }
-            RawEffect::Delete(atom) => {
-                let effect = deleted(alloc, names, &self.scope, atom)?;
-                self.push(alloc, effect)
-            }
+            RawEffect::Add(atom) => self.add(alloc, names, atom),
+            RawEffect::Delete(atom) => self.delete(alloc, names, atom),
             RawEffect::Change(change, target, value) => {
-                let effect = changed(alloc, names, &self.scope, *change, target, value)?;
-                self.push(alloc, effect)
+                self.change(alloc, names, *change, target, value)
             }
-            RawEffect::Undefine(target, place) => {
-                let effect = undefined(alloc, names, &self.scope, target, *place)?;
-                self.push(alloc, effect)
-            }
+            RawEffect::Undefine(target, place) => self.undefine(alloc, names, target, *place),
         }
     }
 
@@ -268,12 +258,49 @@ impl Flattening {
         condition: &RawFormula,
     ) -> Result<bool, Fault> {
         let condition = checked_formula(alloc, names, &mut self.scope, Setting::Plain, condition)?;
+        Ok(self.set_over(alloc, condition)?)
+    }
+
+    fn set_over(&mut self, alloc: Global, condition: Formula) -> Result<bool, Memory> {
         self.scope.bar(alloc, &condition)?;
         if is_empty(&condition) {
             return Ok(false);
         }
         self.whens.push(condition)?;
         Ok(true)
+    }
+
+    fn add(&mut self, alloc: Global, names: &Names, atom: &RawCall) -> Result<(), Fault> {
+        let effect = added(alloc, names, &self.scope, atom)?;
+        self.push(alloc, effect)
+    }
+
+    fn delete(&mut self, alloc: Global, names: &Names, atom: &RawCall) -> Result<(), Fault> {
+        let effect = deleted(alloc, names, &self.scope, atom)?;
+        self.push(alloc, effect)
+    }
+
+    fn change(
+        &mut self,
+        alloc: Global,
+        names: &Names,
+        change: RawChange,
+        target: &RawCall,
+        value: &RawTerm,
+    ) -> Result<(), Fault> {
+        let effect = changed(alloc, names, &self.scope, change, target, value)?;
+        self.push(alloc, effect)
+    }
+
+    fn undefine(
+        &mut self,
+        alloc: Global,
+        names: &Names,
+        target: &RawCall,
+        place: Place,
+    ) -> Result<(), Fault> {
+        let effect = undefined(alloc, names, &self.scope, target, place)?;
+        self.push(alloc, effect)
     }
 
     fn push(&mut self, alloc: Global, effect: Effect) -> Result<(), Fault> {

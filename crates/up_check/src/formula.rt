@@ -28,6 +28,19 @@ pub fn checked_atom(
     checked_terms(alloc, names, scope, setting, declared, args)
 }
 
+fn atom(
+    alloc: Global,
+    names: &Names,
+    scope: &Scope,
+    setting: Setting,
+    place: Place,
+    p: &Ident,
+    args: &[RawTerm],
+) -> Result<Formula, Fault> {
+    let args = checked_atom(alloc, names, scope, setting, place, p, args)?;
+    Ok(Formula::Atom(p.name.copy(alloc)?, args))
+}
+
 // Whether a left side of `=` is a number.
 fn is_numeric(names: &Names, raw: &RawTerm) -> bool {
     match raw {
@@ -72,13 +85,13 @@ fn comparison(
     names: &Names,
     scope: &Scope,
     setting: Setting,
-    relation: Relation,
+    relation: RawRelation,
     left: &RawTerm,
     right: &RawTerm,
 ) -> Result<Formula, Fault> {
     let left = checked_expr(alloc, names, scope, setting, left)?;
     let right = checked_expr(alloc, names, scope, setting, right)?;
-    Ok(Formula::Compare(relation, left, right))
+    Ok(Formula::Compare(relation_of(relation), left, right))
 }
 
 /// A condition.
@@ -107,10 +120,16 @@ pub fn checked_formula(
             setting,
             members.as_slice(),
         )?)),
-        RawFormula::Not(f) => Ok(Formula::Not(boxed(alloc, names, scope, setting, f.get())?)),
+        RawFormula::Not(f) => Ok(Formula::Not(boxed_formula(
+            alloc,
+            names,
+            scope,
+            setting,
+            f.get(),
+        )?)),
         RawFormula::Imply(f, g) => {
-            let f = boxed(alloc, names, scope, setting, f.get())?;
-            let g = boxed(alloc, names, scope, setting, g.get())?;
+            let f = boxed_formula(alloc, names, scope, setting, f.get())?;
+            let g = boxed_formula(alloc, names, scope, setting, g.get())?;
             Ok(Formula::Imply(f, g))
         }
         RawFormula::Exists(groups, f) => {
@@ -136,24 +155,23 @@ pub fn checked_formula(
             Ok(Formula::Forall(variables, f))
         }
         RawFormula::Atom(place, p, args) => {
-            let args = checked_atom(alloc, names, scope, setting, *place, p, args.as_slice())?;
-            Ok(Formula::Atom(p.name.copy(alloc)?, args))
+            atom(alloc, names, scope, setting, *place, p, args.as_slice())
         }
         RawFormula::Compare(place, relation, left, right) => {
             if *relation == RawRelation::Same && !is_numeric(names, left) {
-                return equality(alloc, names, scope, setting, left, right);
+                equality(alloc, names, scope, setting, left, right)
+            } else if setting == Setting::Constraint {
+                Err(bare(*place, Reason::LeftOut))
+            } else {
+                comparison(alloc, names, scope, setting, *relation, left, right)
             }
-            if setting == Setting::Constraint {
-                return Err(bare(*place, Reason::LeftOut));
-            }
-            let relation = relation_of(*relation);
-            comparison(alloc, names, scope, setting, relation, left, right)
         }
     }
 }
 
+/// A condition in a box.
 #[cycle(formula)]
-fn boxed(
+pub fn boxed_formula(
     alloc: Global,
     names: &Names,
     scope: &mut Scope,
@@ -176,7 +194,7 @@ fn quantified(
 ) -> Result<(List<Typed>, Box<Formula>), Fault> {
     let outer = scope.len();
     scope.enter(alloc, names, Binder::Plain, groups)?;
-    let body = boxed(alloc, names, scope, setting, body)?;
+    let body = boxed_formula(alloc, names, scope, setting, body)?;
     let variables = scope.since(alloc, outer)?;
     scope.leave(outer);
     Ok((variables, body))

@@ -1,5 +1,5 @@
 use crate::fault::{Fault, named};
-use crate::names::Names;
+use crate::names::{Names, object};
 use crate::reason::Reason;
 use indexmap::{IndexMap, IndexSet};
 use pddl_parse::{Ident, RawGroup};
@@ -24,14 +24,10 @@ pub struct Scope {
     barred: IndexSet<Name>,
 }
 
-// The type of what is declared without one.
-fn object_type(alloc: Global) -> Result<Name, Memory> {
-    Name::read(alloc, b"object".as_slice()).map_err(|_| Memory)
-}
-
+// The type that is stated, or `object`.
 fn type_named(alloc: Global, of: &Option<Ident>) -> Result<Name, Memory> {
     match of {
-        None => object_type(alloc),
+        None => object(alloc),
         Some(of) => of.name.copy(alloc),
     }
 }
