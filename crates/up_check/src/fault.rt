@@ -1,3 +1,6 @@
+ghost use Rattle.std.specs.Prelude.{◌≡◌};
+ghost use Rattle.up_check.specs.Named.{at, bare};
+
 use crate::reason::Reason;
 use std::alloc::Global;
 use up_text::{Memory, Name, Place};
@@ -26,7 +29,9 @@ impl From<Memory> for Fault {
 }
 
 /// The fault of a name.
-pub fn named(alloc: Global, place: Place, reason: Reason, name: &Name) -> Fault {
+pub fn named(alloc: Global, place: Place, reason: Reason, name: &Name) -> Fault
+    ensures { ¬ (result ≡ Fault.Memory) → result ≡ at place reason name.now }
+{
     match name.copy(alloc) {
         Ok(name) => Fault::At {
             place,
@@ -38,7 +43,9 @@ pub fn named(alloc: Global, place: Place, reason: Reason, name: &Name) -> Fault 
 }
 
 /// The fault of what has no name.
-pub fn bare(place: Place, reason: Reason) -> Fault {
+pub fn bare(place: Place, reason: Reason) -> Fault
+    ensures { result ≡ bare place reason }
+{
     Fault::At {
         place,
         reason,

@@ -152,10 +152,8 @@ fn problem_of(
     actions: List<Action>,
     rest: Rest,
 ) -> Problem {
-    let metric = match rest.metric {
-        None => None,
-        Some(metric) => Some(metric.into_inner()),
-    };
+    let goal = rest.goal.into_inner();
+    let metric = unboxed(rest.metric);
     Problem::new(Parts {
         domain: titles.domain,
         name: titles.problem,
@@ -168,10 +166,17 @@ fn problem_of(
         numbers: rest.init.numbers,
         values: rest.init.values,
         actions,
-        goal: rest.goal.into_inner(),
+        goal,
         metric,
         constraints: rest.constraints,
     })
+}
+
+fn unboxed(metric: Option<Box<Metric>>) -> Option<Metric> {
+    match metric {
+        None => None,
+        Some(metric) => Some(metric.into_inner()),
+    }
 }
 
 fn declared_lists(alloc: Global, names: Names) -> Result<Declared, Memory> {

@@ -1,3 +1,6 @@
+ghost use Rattle.std.specs.Prelude.{◌≡◌};
+ghost use Rattle.up_check.specs.Refusals.{bare_refused, bytes_refused, refused, shape_refused};
+
 use crate::domain::{Domain, checked_domain};
 use crate::fault::Fault;
 use crate::problem::checked_problem;
@@ -33,7 +36,9 @@ fn problem_form_of(alloc: Global, text: &[u8]) -> Result<ProblemForm, ReadError>
     problem_form(alloc, &trees).map_err(|fault| shape_refused(File::Problem, fault))
 }
 
-fn bare_refused(file: File, place: Place, reason: Reason) -> ReadError {
+fn bare_refused(file: File, place: Place, reason: Reason) -> ReadError
+    ensures { result ≡ bare_refused file place reason }
+{
     ReadError::Refused {
         file,
         place,
@@ -42,7 +47,9 @@ fn bare_refused(file: File, place: Place, reason: Reason) -> ReadError {
     }
 }
 
-fn bytes_refused(file: File, fault: LexError) -> ReadError {
+fn bytes_refused(file: File, fault: LexError) -> ReadError
+    ensures { result ≡ bytes_refused file fault }
+{
     match fault {
         LexError::Memory => ReadError::Memory,
         LexError::BadByte { place } => bare_refused(file, place, Reason::BadByte),
@@ -53,7 +60,9 @@ fn bytes_refused(file: File, fault: LexError) -> ReadError {
     }
 }
 
-fn shape_refused(file: File, fault: ShapeError) -> ReadError {
+fn shape_refused(file: File, fault: ShapeError) -> ReadError
+    ensures { result ≡ shape_refused file fault }
+{
     match fault {
         ShapeError::Memory => ReadError::Memory,
         ShapeError::Expected { place } => bare_refused(file, place, Reason::Expected),
@@ -62,7 +71,9 @@ fn shape_refused(file: File, fault: ShapeError) -> ReadError {
     }
 }
 
-fn refused(file: File, fault: Fault) -> ReadError {
+fn refused(file: File, fault: Fault) -> ReadError
+    ensures { result ≡ refused file fault }
+{
     match fault {
         Fault::Memory => ReadError::Memory,
         Fault::At {

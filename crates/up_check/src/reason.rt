@@ -1,3 +1,6 @@
+ghost use Rattle.std.specs.Prelude.{◌≡◌};
+ghost use Rattle.up_check.specs.Reasons.{reason_word};
+
 use thiserror::Error;
 use up_text::{Memory, Name, Place};
 
@@ -43,7 +46,9 @@ pub enum Reason {
 
 impl Reason {
     /// The reason as it is printed: its words in lower case, joined by `-`.
-    pub fn word(self) -> &'static str {
+    pub fn word(self) -> &'static str
+        ensures { result.now ≡ reason_word self }
+    {
         match self {
             Reason::BadByte => "bad-byte",
             Reason::BadNumber => "bad-number",

@@ -159,8 +159,7 @@ fn parent_at(types: &IndexMap<Name, Name>, at: usize) -> Option<usize> {
 // Whether the chain of a type reaches one that is known to reach `object`, or one whose parent isn't listed.
 fn reaches(types: &IndexMap<Name, Name>, reaching: &[bool], from: usize) -> bool {
     let mut at = from;
-    let mut left = types.len();
-    'up: while left > 0 {
+    for _ in 0..types.len() {
         if reaching.get(at) == Some(&true) {
             return true;
         }
@@ -168,7 +167,6 @@ fn reaches(types: &IndexMap<Name, Name>, reaching: &[bool], from: usize) -> bool
             None => return true,
             Some(parent) => at = parent,
         }
-        left -= 1;
     }
     false
 }
@@ -176,8 +174,7 @@ fn reaches(types: &IndexMap<Name, Name>, reaching: &[bool], from: usize) -> bool
 // Notes that the types of a chain reach `object`.
 fn set_reaching(types: &IndexMap<Name, Name>, reaching: &mut Vec<bool>, from: usize) {
     let mut at = from;
-    let mut left = types.len();
-    'up: while left > 0 {
+    for _ in 0..types.len() {
         if !set_one(reaching, at) {
             return;
         }
@@ -185,7 +182,6 @@ fn set_reaching(types: &IndexMap<Name, Name>, reaching: &mut Vec<bool>, from: us
             None => return,
             Some(parent) => at = parent,
         }
-        left -= 1;
     }
 }
 
