@@ -1,0 +1,5 @@
+(define (problem two-rooms) (:domain gripper)
+ (:objects rooma roomb ball1)
+ (:init (room rooma) (room roomb) (ball ball1) (free)
+  (at-robby rooma) (at ball1 rooma))
+ (:goal (at ball1 roomb)))

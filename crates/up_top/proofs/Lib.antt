@@ -1,0 +1,6 @@
+pub mod Answered
+pub mod Chosen
+pub mod Complete
+pub mod Ends
+pub mod Outputs
+pub mod Puts

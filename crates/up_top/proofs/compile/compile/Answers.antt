@@ -1,0 +1,5 @@
+use Rattle.up_top.proofs.Ends.{leaves_from}
+use Rattle.up_top.proofs.compile.compile.Goals as goal
+
+pub returns-in-Ok-whole_of-clause-held : goal.returns-in-Ok-whole_of-clause-held
+returns-in-Ok-whole_of-clause-held g c = leaves_from _ _ _ _ _ c.read_inputs.ensures.kept c.write_whole.ensures.held

@@ -1,0 +1,113 @@
+-- What a run answers, and the status and the text of that.
+use Rattle.std.specs.Prelude.{ℕ, List, [], ◌++◌, Option, None, Some, codes, decimal, flat_map, bit_and, ◌==◌, if◌then◌else◌}
+use Rattle.up_text.specs.declared.place.Place.{Place}
+use Rattle.up_kind.specs.declared.kind.Kind.{Kind}
+use Rattle.up_kind.specs.Features.{feature_table}
+use Rattle.bitflags.specs.declared.traits.Flag.{Flag}
+use Rattle.up_compiler.specs.declared.id.CompilerId.{CompilerId}
+use Rattle.up_map.specs.Texts.{chain_line, stage_text}
+use Rattle.up_check.specs.declared.reason.File.{File}
+use Rattle.up_check.specs.declared.reason.File.TheVariants as file
+use Rattle.up_pipeline.specs.declared.engine.EngineError.{EngineError}
+use Rattle.up_pipeline.specs.declared.engine.EngineError.TheVariants as engine
+use Rattle.up_top.specs.declared.answer.Stop.{Stop}
+use Rattle.up_top.specs.declared.answer.Stop.TheVariants as stop
+use Rattle.up_top.specs.declared.answer.Answer.{Answer}
+use Rattle.up_top.specs.declared.answer.Answer.TheVariants as answer
+use Rattle.up_top.specs.declared.status.Status.{Status}
+use Rattle.up_top.specs.declared.status.Status.TheVariants.{Done, Usage, Memory, Missing, ReadFault, WriteFault, DomainRefused, ProblemRefused, EngineRefused, NoPipeline, InputTooLarge}
+use Rattle.up_top.specs.Words.{word_at}
+
+-- ---- statuses
+
+abbrev pub stop_status : Stop → Status
+stop_status stop.Usage = Usage
+stop_status stop.Memory = Memory
+stop_status (stop.Missing at) = Missing at
+stop_status (stop.ReadFault at) = ReadFault at
+stop_status (stop.WriteFault at) = WriteFault (Some at)
+stop_status stop.NoPipeline = NoPipeline
+stop_status (stop.InputTooLarge at) = InputTooLarge at
+
+abbrev pub file_status : File → Status
+file_status file.Domain = DomainRefused
+file_status file.Problem = ProblemRefused
+
+abbrev pub engine_status : EngineError → Status
+engine_status engine.Memory = Memory
+engine_status error = EngineRefused
+
+abbrev pub status_of : Answer → Status
+status_of (answer.Features kind) = Done
+status_of (answer.Chain chain) = Done
+status_of (answer.Actions count) = Done
+status_of (answer.Refused file place reason name) = file_status file
+status_of (answer.Unread error) = engine_status error
+status_of (answer.Stopped stop) = stop_status stop
+
+-- ---- texts
+
+-- a flag's name and its bits
+abbrev pub flag_row : Flag Kind → List ℕ × ℕ
+flag_row flag = (flag.name.now, flag.value.0)
+
+-- the line of a feature, where its bit is in the set
+abbrev pub row_text : ℕ → List ℕ × ℕ → List ℕ
+row_text bits row = if bit_and bits row.1 == row.1 then row.0 ++ codes "\n" else []
+
+abbrev pub rows_text : ℕ → List (List ℕ × ℕ) → List ℕ
+rows_text bits rows = flat_map (row_text bits) rows
+
+-- the names of the features of a set, one on a line, in the order of the table
+abbrev pub features_text : ℕ → List ℕ
+features_text bits = rows_text bits feature_table
+
+-- the names of compilers, each behind a front
+abbrev pub fronted : List ℕ → List CompilerId → List ℕ
+fronted front stages = flat_map (λ id. front ++ stage_text id) stages
+
+abbrev pub actions_text : ℕ → List ℕ
+actions_text count = codes "done actions " ++ decimal count ++ codes "\n"
+
+-- a reason and the name or word at fault
+abbrev pub named_text : List ℕ → List ℕ → List ℕ
+named_text reason name = reason ++ (codes " " ++ name ++ codes "\n")
+
+abbrev pub reason_text : List ℕ → Option (List ℕ) → List ℕ
+reason_text reason None = reason ++ codes "\n"
+reason_text reason (Some name) = named_text reason name
+
+abbrev pub place_text : Place → List ℕ
+place_text place = (decimal place.line ++ codes ":") ++ (decimal place.column ++ codes " ")
+
+abbrev pub front_text : File → List ℕ
+front_text file.Domain = codes "domain refused "
+front_text file.Problem = codes "problem refused "
+
+abbrev pub refused_text : File → Place → List ℕ → Option (List ℕ) → List ℕ
+refused_text file place reason name = front_text file ++ (place_text place ++ reason_text reason name)
+
+abbrev pub engine_text : EngineError → List ℕ
+engine_text engine.Memory = codes "out of memory\n"
+engine_text engine.Toml = codes "engine refused toml\n"
+engine_text (engine.UnknownKey word) = codes "engine refused " ++ named_text (codes "unknown-key") word
+engine_text (engine.NoKey word) = codes "engine refused " ++ named_text (codes "no-key") word
+engine_text (engine.WrongType word) = codes "engine refused " ++ named_text (codes "wrong-type") word
+engine_text (engine.UnknownFeature word) = codes "engine refused " ++ named_text (codes "unknown-feature") word
+
+abbrev pub stop_text : List (List ℕ) → Stop → List ℕ
+stop_text words stop.Usage = codes "usage\n"
+stop_text words stop.Memory = codes "out of memory\n"
+stop_text words (stop.Missing at) = codes "missing " ++ word_at words at ++ codes "\n"
+stop_text words (stop.ReadFault at) = codes "read fault " ++ word_at words at ++ codes "\n"
+stop_text words (stop.WriteFault at) = codes "write fault\n"
+stop_text words stop.NoPipeline = codes "no pipeline\n"
+stop_text words (stop.InputTooLarge at) = codes "too large " ++ word_at words at ++ codes "\n"
+
+abbrev pub answer_text : List (List ℕ) → Answer → List ℕ
+answer_text words (answer.Features kind) = features_text kind.0
+answer_text words (answer.Chain chain) = chain_line chain.stages
+answer_text words (answer.Actions count) = actions_text count
+answer_text words (answer.Refused file place reason name) = refused_text file place reason.now name
+answer_text words (answer.Unread error) = engine_text error
+answer_text words (answer.Stopped stop) = stop_text words stop

@@ -1,0 +1,6 @@
+pub mod Answers
+pub mod Cause
+pub mod Code
+pub mod Run
+pub mod Says
+pub mod Words

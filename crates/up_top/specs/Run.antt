@@ -1,0 +1,100 @@
+-- What a run leaves in the store.
+use Rattle.std.specs.Prelude.{◌≡◌, ◌⊎◌, ◌<◌, ⊤, ℕ, length, List, [], ◌∷◌, Option, None, Some, Result, Ok, Err}
+use Rattle.up_store.specs.Outside.{Files, held_with, KeepsOrCuts}
+use Rattle.up_kind.specs.Carried.{carries}
+use Rattle.up_kind.specs.Features.{has}
+use Rattle.up_compiler.specs.declared.id.CompilerId.{CompilerId}
+use Rattle.up_compiler.specs.Identity.{identity_entries}
+use Rattle.up_tree.specs.declared.problem.Parts.{Parts}
+use Rattle.up_map.specs.declared.map.Map.{Map}
+use Rattle.up_map.specs.Texts.{map_text}
+use Rattle.pddl_write.specs.Files.{domain_text, problem_text}
+use Rattle.up_pipeline.specs.declared.engine.Engine.{Engine}
+use Rattle.up_pipeline.specs.Chains.{IsBest}
+use Rattle.up_top.specs.declared.command.Command.{Command}
+use Rattle.up_top.specs.declared.answer.Stop.{Stop}
+use Rattle.up_top.specs.declared.status.Status.{Status}
+use Rattle.up_top.specs.declared.status.Status.TheVariants.{Done, Memory, Missing, ReadFault, WriteFault, InputTooLarge}
+use Rattle.up_top.specs.Words.{word_at, command_of}
+use Rattle.up_top.specs.Answers.{stop_status}
+use Rattle.up_top.specs.Cause.{HasOutputs}
+
+-- a text under the output name at a place of the words
+pub record Output : Type 0 where
+  pub place : ℕ
+  pub text : List ℕ
+
+-- what is held once these outputs are written in their order
+abbrev pub held_after : List (List ℕ) → List Output → Option Files → Option Files
+held_after words [] held = held
+held_after words (output ∷ outputs) held =
+    held_after words outputs (held_with (word_at words output.place) output.text held)
+
+-- the three outputs with these texts
+abbrev pub outputs_of : List ℕ → List ℕ → List ℕ → List Output
+outputs_of domain problem map =
+    record { place = 4; text = domain } ∷ record { place = 5; text = problem } ∷ record { place = 6; text = map } ∷ []
+
+-- the first outputs in their order are written whole, and the others are as before
+abbrev pub SomeWritten : List (List ℕ) → List Output → Option Files → Option Files → Type 0
+SomeWritten words [] old new = new ≡ old
+SomeWritten words (output ∷ outputs) old new =
+    (new ≡ old) ⊎ SomeWritten words outputs (held_with (word_at words output.place) output.text old) new
+
+-- The write at this place failed: the outputs before it are whole, its own is as before or a prefix, and those
+-- behind it are as before.
+abbrev pub FailsAt : List (List ℕ) → List Output → Option Files → Option Files → ℕ → Type 0
+FailsAt words [] old new at = ⊥
+FailsAt words (output ∷ outputs) old new at =
+    ((at ≡ output.place) × KeepsOrCuts (word_at words at) output.text old new)
+    ⊎ FailsAt words outputs (held_with (word_at words output.place) output.text old) new at
+
+-- what is held after each status, where the outputs of status 0 are these
+abbrev pub HeldAfter : List (List ℕ) → List Output → Option Files → Option Files → Status → Type 0
+HeldAfter words outputs old new Done = new ≡ held_after words outputs old
+HeldAfter words outputs old new Memory = SomeWritten words outputs old new
+HeldAfter words outputs old new (WriteFault None) = new ≡ held_after words outputs old
+HeldAfter words outputs old new (WriteFault (Some at)) = FailsAt words outputs old new at
+HeldAfter words outputs old new status = new ≡ old
+
+-- the chain that is chosen for a problem and some engine
+pub record IsChosen (problem : Parts) (stages : List CompilerId) : Type 0 where
+  pub engine : Engine
+  pub best : IsBest [] (has engine.features.0) (carries problem) stages
+
+-- a problem that no compiler changed, and its map
+pub record IsWhole (problem : Parts) (map : Map) : Type 0 where
+  pub chosen : IsChosen problem map.stages.stages
+  pub kept : map.back ≡ identity_entries problem.actions
+
+-- some problem and its map, as texts
+pub record AreOutputs (outputs : List Output) : Type 0 where
+  pub problem : Parts
+  pub map : Map
+  pub whole : IsWhole problem map
+  pub texts : outputs ≡ outputs_of (domain_text problem) (problem_text problem) (map_text map)
+
+-- the status of the writes
+abbrev pub write_status : {T : Type 0} → Result T Stop → Status
+write_status (Ok done) = Done
+write_status (Err stop) = stop_status stop
+
+-- The statuses at which nothing is written: all but those of a command with outputs that is done or whose write or
+-- put failed.
+abbrev pub KeepsHeld : Option Command → Status → Type 0
+KeepsHeld command Done = ¬ HasOutputs command
+KeepsHeld command (WriteFault at) = ¬ HasOutputs command
+KeepsHeld command status = ⊤
+
+-- what a run leaves: all as it was, or what comes of the writes of some problem and its map
+pub data Leaves (words : List (List ℕ)) (old new : Option Files) (status : Status) : Type 0 where
+  untouched : KeepsHeld (command_of words) status → new ≡ old → Leaves words old new status
+  wrote : (outputs : List Output) → HasOutputs (command_of words) → AreOutputs outputs
+      → HeldAfter words outputs old new status → Leaves words old new status
+
+-- a name stands at each place that a status carries
+abbrev pub HasPlace : List (List ℕ) → Status → Type 0
+HasPlace words (Missing at) = at < length words
+HasPlace words (ReadFault at) = at < length words
+HasPlace words (InputTooLarge at) = at < length words
+HasPlace words status = ⊤

@@ -1,0 +1,83 @@
+ghost use Rattle.std.specs.Prelude.{◌≡◌};
+
+use crate::status::Status;
+use up_check::File;
+use up_kind::Kind;
+use up_pipeline::{Chain, EngineError};
+use up_text::{Name, Place};
+
+/// Why a run ends early, where its words and a place in them say all.
+#[derive(Clone, Copy, Debug, PartialEq, Eq)]
+pub enum Stop {
+    Usage,
+    Memory,
+    Missing { word: usize },
+    ReadFault { word: usize },
+    WriteFault { word: usize },
+    NoPipeline,
+    InputTooLarge { word: usize },
+}
+
+impl Stop {
+    ghost use Rattle.up_top.specs.Answers.{stop_status};
+
+    pub fn status(self) -> Status
+        ensures { result ≡ stop_status self }
+    {
+        match self {
+            Stop::Usage => Status::Usage,
+            Stop::Memory => Status::Memory,
+            Stop::Missing { word } => Status::Missing { word },
+            Stop::ReadFault { word } => Status::ReadFault { word },
+            Stop::WriteFault { word } => Status::WriteFault { word: Some(word) },
+            Stop::NoPipeline => Status::NoPipeline,
+            Stop::InputTooLarge { word } => Status::InputTooLarge { word },
+        }
+    }
+}
+
+/// What a run has to say, with all that its text needs besides the words.
+#[derive(Drop)]
+pub enum Answer {
+    /// The features that a problem carries.
+    Features(Kind),
+    /// The chosen compilers.
+    Chain(Chain),
+    /// How many compiled actions were written.
+    Actions(usize),
+    /// The reading of a problem stops.
+    Refused {
+        file: File,
+        place: Place,
+        reason: &'static str,
+        name: Option<Name>,
+    },
+    /// The reading of an engine stops.
+    Unread(EngineError),
+    Stopped(Stop),
+}
+
+impl Answer {
+    ghost use Rattle.up_top.specs.Answers.{status_of};
+
+    pub fn status(&self) -> Status
+        ensures { result ≡ status_of self.now }
+    {
+        match self {
+            Answer::Features(_) => Status::Done,
+            Answer::Chain(_) => Status::Done,
+            Answer::Actions(_) => Status::Done,
+            Answer::Refused {
+                file: File::Domain,
+                ..
+            } => Status::DomainRefused,
+            Answer::Refused {
+                file: File::Problem,
+                ..
+            } => Status::ProblemRefused,
+            Answer::Unread(EngineError::Memory) => Status::Memory,
+            Answer::Unread(_) => Status::EngineRefused,
+            Answer::Stopped(stop) => stop.status(),
+        }
+    }
+}

@@ -1,0 +1,77 @@
+ghost use Rattle.std.specs.Prelude.{◌≡◌, ◌≤◌, ◌<◌, length, None, Some, IfSome};
+ghost use Rattle.up_top.specs.Answers.{status_of};
+ghost use Rattle.up_top.specs.Cause.{ReadCause, WriteCause, StopsAt, StopsFirst, IsPlaced, HasOutputs, AreReadable, IsWriteStatus, inputs_end};
+ghost use Rattle.up_top.specs.Run.{HasPlace, IsWhole, Leaves};
+ghost use Rattle.up_top.specs.Says.{IsOf};
+ghost use Rattle.up_top.specs.Words.{command_of};
+
+use crate::answer::{Answer, Stop};
+use crate::read::read_inputs;
+use crate::status::Status;
+use crate::whole::{Whole, whole_of};
+use crate::write::write_outputs;
+use pddl_write::{domain_pieces, problem_pieces};
+use std::alloc::Global;
+use up_map::map_pieces;
+use up_store::{Store, Word};
+
+// Makes the texts of a compiled problem and writes them.
+#[tactic(auto, using(crate::proofs::Ends::ends))]
+fn write_whole<W: Store>(alloc: Global, words: &[Word], whole: &Whole, store: &mut W) -> Answer
+    requires within { 7 ≤ length words.now }
+    requires outputs { HasOutputs (command_of words.now) }
+    requires inputs { inputs_end (command_of words.now) ≡ 4 }
+    requires whole { IsWhole whole.now.problem whole.now.map }
+    requires readable { IfSome (W.held store.old) (AreReadable words.now 4) }
+    ensures of { IsOf (command_of words.now) result }
+    ensures place { IsPlaced (command_of words.now) (status_of result) }
+    ensures within { HasPlace words.now (status_of result) }
+    ensures fit { ¬ (status_of result ≡ Status.Usage) }
+    ensures put { ¬ (status_of result ≡ Status.WriteFault None) }
+    ensures held { Leaves words.now (W.held store.old) (W.held store.new) (status_of result) }
+    ensures stop { IsWriteStatus 4 6 (status_of result) }
+    ensures write { WriteCause W.losses words.now store.old store.new (status_of result) }
+    ensures told { IfSome (W.held store.old) (StopsAt words.now (status_of result)) }
+    ensures first { IfSome (W.held store.old) (StopsFirst words.now (status_of result)) }
+{
+    let Ok(mut domain) = domain_pieces(alloc, &whole.problem) else {
+        return Answer::Stopped(Stop::Memory);
+    };
+    let Ok(mut problem) = problem_pieces(alloc, &whole.problem) else {
+        return Answer::Stopped(Stop::Memory);
+    };
+    let Ok(mut map) = map_pieces(alloc, &whole.map) else {
+        return Answer::Stopped(Stop::Memory);
+    };
+    match write_outputs(alloc, words, &mut domain, &mut problem, &mut map, store) {
+        Ok(()) => Answer::Actions(whole.problem.parts().actions.len()),
+        Err(stop) => Answer::Stopped(stop),
+    }
+}
+
+/// Compiles the problem of the words and writes it.
+#[tactic(auto, using(crate::proofs::Ends::ends))]
+pub(crate) fn compile<W: Store>(alloc: Global, words: &[Word], store: &mut W) -> Answer
+    requires within { 7 ≤ length words.now }
+    requires outputs { HasOutputs (command_of words.now) }
+    requires inputs { inputs_end (command_of words.now) ≡ 4 }
+    ensures of { IsOf (command_of words.now) result }
+    ensures place { IsPlaced (command_of words.now) (status_of result) }
+    ensures within { HasPlace words.now (status_of result) }
+    ensures fit { ¬ (status_of result ≡ Status.Usage) }
+    ensures put { ¬ (status_of result ≡ Status.WriteFault None) }
+    ensures held { Leaves words.now (W.held store.old) (W.held store.new) (status_of result) }
+    ensures read { ReadCause W.faults W.misses W.larges words.now store.old store.new (status_of result) }
+    ensures write { WriteCause W.losses words.now store.old store.new (status_of result) }
+    ensures told { IfSome (W.held store.old) (StopsAt words.now (status_of result)) }
+    ensures first { IfSome (W.held store.old) (StopsFirst words.now (status_of result)) }
+{
+    let inputs = match read_inputs(alloc, words, store) {
+        Ok(inputs) => inputs,
+        Err(stop) => return Answer::Stopped(stop),
+    };
+    match whole_of(alloc, &inputs) {
+        Ok(whole) => write_whole(alloc, words, &whole, store),
+        Err(answer) => answer,
+    }
+}

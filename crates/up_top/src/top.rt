@@ -1,0 +1,103 @@
+ghost use Rattle.std.specs.Prelude.{◌≡◌, ◌↔◌, ◌≤◌, None, Some, IfSome, OnOk, OnErr, is_ok, is_some, true};
+ghost use Rattle.up_store.specs.Outside.{Rose, written_with, GotPrefix};
+ghost use Rattle.up_top.specs.Answers.{answer_text, status_of, stop_text, stop_status};
+ghost use Rattle.up_top.specs.Cause.{ReadCause, WriteCause, StopsAt, StopsFirst, IsPlaced, IsOutcome, AllWell};
+ghost use Rattle.up_top.specs.Run.{HasPlace, Leaves};
+ghost use Rattle.up_top.specs.Says.{IsOf, PutsAnswer, ended};
+ghost use Rattle.up_top.specs.Words.{command_of};
+
+use crate::answer::{Answer, Stop};
+use crate::ask::{features, pipeline};
+use crate::command::Command;
+use crate::compile::compile;
+use crate::say::put_answer;
+use crate::status::Status;
+use crate::words::command_of;
+use std::alloc::Global;
+use up_store::{Sink, SinkFailed, Store, Word};
+
+// All that a run does before it puts its text.
+fn work<W: Store>(alloc: Global, words: &[Word], store: &mut W) -> Answer
+    ensures usage { (status_of result ≡ Status.Usage) ↔ (command_of words.now ≡ None) }
+    ensures of { IsOf (command_of words.now) result }
+    ensures place { IsPlaced (command_of words.now) (status_of result) }
+    ensures within { HasPlace words.now (status_of result) }
+    ensures put { ¬ (status_of result ≡ Status.WriteFault None) }
+    ensures held { Leaves words.now (W.held store.old) (W.held store.new) (status_of result) }
+    ensures read { ReadCause W.faults W.misses W.larges words.now store.old store.new (status_of result) }
+    ensures write { WriteCause W.losses words.now store.old store.new (status_of result) }
+    ensures told { IfSome (W.held store.old) (StopsAt words.now (status_of result)) }
+    ensures first { IfSome (W.held store.old) (StopsFirst words.now (status_of result)) }
+{
+    match command_of(words) {
+        None => Answer::Stopped(Stop::Usage),
+        Some(Command::Kind) => features(alloc, words, store),
+        Some(Command::Pipeline) => pipeline(alloc, words, store),
+        Some(Command::Compile { .. }) => compile(alloc, words, store),
+    }
+}
+
+// A failed put makes done a write fault, and changes no other status.
+fn end(status: Status, put: Result<(), SinkFailed>) -> Status
+    ensures { result ≡ ended status (is_ok put) }
+{
+    match status {
+        Status::Done => match put {
+            Ok(()) => Status::Done,
+            Err(SinkFailed) => Status::WriteFault { word: None },
+        },
+        status => status,
+    }
+}
+
+// The run, without the clause that follows from the others.
+#[tactic(auto, using(crate::proofs::Answered::answers))]
+fn attempt<W: Store, K: Sink>(alloc: Global, words: &[Word], store: &mut W, out: &mut K) -> Status
+    ensures usage { (result ≡ Status.Usage) ↔ (command_of words.now ≡ None) }
+
+    // What is held afterwards. No name but the outputs' changes.
+    ensures held { Leaves words.now (W.held store.old) (W.held store.new) result }
+
+    // Each status has its cause.
+    ensures place { IsPlaced (command_of words.now) result }
+    ensures read { ReadCause W.faults W.misses W.larges words.now store.old store.new result }
+    ensures write { WriteCause W.losses words.now store.old store.new result }
+    ensures put { result ≡ Status.WriteFault None → Rose (K.faults out.old) (K.faults out.new) }
+    ensures told { IfSome (W.held store.old) (StopsAt words.now result) }
+    ensures first { IfSome (W.held store.old) (StopsFirst words.now result) }
+
+    // The text of the status is put, or a prefix of it where the sink failed.
+    ensures text { PutsAnswer words.now result (K.faults out.old) (K.faults out.new) (K.written out.old) (K.written out.new) }
+{
+    let answer = work(alloc, words, store);
+    let put = put_answer(words, &answer, out);
+    end(answer.status(), put)
+}
+
+/// Does what the words ask for with the texts of the store, and puts one text.
+///
+/// The inputs are read in the order of the words; the outputs are written after all of their pieces are made.
+pub fn run<W: Store, K: Sink>(alloc: Global, words: &[Word], store: &mut W, out: &mut K) -> Status
+    ensures usage { (result ≡ Status.Usage) ↔ (command_of words.now ≡ None) }
+
+    // What is held afterwards. No name but the outputs' changes.
+    ensures held { Leaves words.now (W.held store.old) (W.held store.new) result }
+
+    // Each status has its cause.
+    ensures place { IsPlaced (command_of words.now) result }
+    ensures read { ReadCause W.faults W.misses W.larges words.now store.old store.new result }
+    ensures write { WriteCause W.losses words.now store.old store.new result }
+    ensures put { result ≡ Status.WriteFault None → Rose (K.faults out.old) (K.faults out.new) }
+    ensures told { IfSome (W.held store.old) (StopsAt words.now result) }
+    ensures first { IfSome (W.held store.old) (StopsFirst words.now result) }
+
+    // The text of the status is put, or a prefix of it where the sink failed.
+    ensures text { PutsAnswer words.now result (K.faults out.old) (K.faults out.new) (K.written out.old) (K.written out.new) }
+
+    // Where the words fit and nothing fails, the run is done, refuses a text or wants memory.
+    ensures complete { is_some (command_of words.now) ≡ true → IfSome (W.held store.old) (λ files.
+        AllWell W.faults W.losses words.now store.old store.new (K.faults out.old) (K.faults out.new) files
+        → IsOutcome result) }
+{
+    attempt(alloc, words, store, out)
+}
