@@ -32,8 +32,8 @@ is_done (Some command.Kind) words (answer.Actions count) ok of = absurd of
 is_done (Some command.Pipeline) words (answer.Actions count) ok of = absurd of
 is_done (Some (command.Compile limit)) words (answer.Actions count) true of = record { count = count; is = refl }
 is_done (Some (command.Compile limit)) words (answer.Actions count) false of = record { count = count; is = refl }
-is_done command words (answer.Refused file.Domain place reason name) ok of = record { place = place; reason = reason.now; name = name; is = refl }
-is_done command words (answer.Refused file.Problem place reason name) ok of = record { place = place; reason = reason.now; name = name; is = refl }
+is_done command words (answer.Refused file.Domain place reason name) ok of = record { place = place; reason = reason; name = name; is = refl }
+is_done command words (answer.Refused file.Problem place reason name) ok of = record { place = place; reason = reason; name = name; is = refl }
 is_done command words (answer.Unread engine.Memory) ok of = refl
 is_done command words (answer.Unread engine.Toml) ok of = record { error = engine.Toml; refused = refl; is = refl }
 is_done command words (answer.Unread (engine.UnknownKey word)) ok of = record { error = (engine.UnknownKey word); refused = refl; is = refl }

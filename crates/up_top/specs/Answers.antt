@@ -7,6 +7,8 @@ use Rattle.bitflags.specs.declared.traits.Flag.{Flag}
 use Rattle.up_compiler.specs.declared.id.CompilerId.{CompilerId}
 use Rattle.up_map.specs.Texts.{chain_line, stage_text}
 use Rattle.up_check.specs.declared.reason.File.{File}
+use Rattle.up_check.specs.declared.reason.Reason.{Reason}
+use Rattle.up_check.specs.Reasons.{reason_word}
 use Rattle.up_check.specs.declared.reason.File.TheVariants as file
 use Rattle.up_pipeline.specs.declared.engine.EngineError.{EngineError}
 use Rattle.up_pipeline.specs.declared.engine.EngineError.TheVariants as engine
@@ -84,8 +86,8 @@ abbrev pub front_text : File → List ℕ
 front_text file.Domain = codes "domain refused "
 front_text file.Problem = codes "problem refused "
 
-abbrev pub refused_text : File → Place → List ℕ → Option (List ℕ) → List ℕ
-refused_text file place reason name = front_text file ++ (place_text place ++ reason_text reason name)
+abbrev pub refused_text : File → Place → Reason → Option (List ℕ) → List ℕ
+refused_text file place reason name = front_text file ++ (place_text place ++ reason_text (reason_word reason) name)
 
 abbrev pub engine_text : EngineError → List ℕ
 engine_text engine.Memory = codes "out of memory\n"
@@ -108,6 +110,6 @@ abbrev pub answer_text : List (List ℕ) → Answer → List ℕ
 answer_text words (answer.Features kind) = features_text kind.0
 answer_text words (answer.Chain chain) = chain_line chain.stages
 answer_text words (answer.Actions count) = actions_text count
-answer_text words (answer.Refused file place reason name) = refused_text file place reason.now name
+answer_text words (answer.Refused file place reason name) = refused_text file place reason name
 answer_text words (answer.Unread error) = engine_text error
 answer_text words (answer.Stopped stop) = stop_text words stop

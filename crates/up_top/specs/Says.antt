@@ -5,6 +5,7 @@ use Rattle.up_store.specs.Outside.{Rose, written_with, GotPrefix}
 use Rattle.up_compiler.specs.declared.id.CompilerId.{CompilerId}
 use Rattle.up_map.specs.Texts.{chain_line}
 use Rattle.up_check.specs.declared.reason.File.{File}
+use Rattle.up_check.specs.declared.reason.Reason.{Reason}
 use Rattle.up_check.specs.declared.reason.File.TheVariants as file
 use Rattle.up_pipeline.specs.declared.engine.EngineError.{EngineError}
 use Rattle.up_top.specs.declared.command.Command.{Command}
@@ -35,7 +36,7 @@ pub record SaysActions (text : List ℕ) : Type 0 where
 -- some refusal of a file
 pub record SaysRefused (file : File) (text : List ℕ) : Type 0 where
   pub place : Place
-  pub reason : List ℕ
+  pub reason : Reason
   pub name : Option (List ℕ)
   pub is : text ≡ refused_text file place reason name
 

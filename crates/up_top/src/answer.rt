@@ -1,7 +1,7 @@
 ghost use Rattle.std.specs.Prelude.{◌≡◌};
 
 use crate::status::Status;
-use up_check::File;
+use up_check::{File, Reason};
 use up_kind::Kind;
 use up_pipeline::{Chain, EngineError};
 use up_text::{Name, Place};
@@ -49,7 +49,7 @@ pub enum Answer {
     Refused {
         file: File,
         place: Place,
-        reason: &'static str,
+        reason: Reason,
         name: Option<Name>,
     },
     /// The reading of an engine stops.

@@ -11,6 +11,8 @@ mod put;
 mod read;
 mod say;
 mod status;
+#[cfg(test)]
+mod tests;
 mod top;
 mod whole;
 mod words;

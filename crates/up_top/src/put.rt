@@ -4,7 +4,7 @@ ghost use Rattle.up_store.specs.Outside.{Rose, written_with, GotPrefix};
 ghost use Rattle.up_top.specs.Answers.{place_text, reason_text, named_text, front_text, refused_text, engine_text, actions_text};
 
 use itoa::Buffer;
-use up_check::File;
+use up_check::{File, Reason};
 use up_pipeline::EngineError;
 use up_store::{Sink, SinkFailed};
 use up_text::{List, Name, Place};
@@ -98,17 +98,17 @@ pub(crate) fn put_refused<K: Sink>(
     out: &mut K,
     file: File,
     place: Place,
-    reason: &str,
+    reason: Reason,
     name: Option<&Name>,
 ) -> Result<(), SinkFailed>
-    ensures whole { OnOk result (K.written out.new ≡ written_with (refused_text file place reason.now (option_copied name.entry)) (K.written out.old)) }
-    ensures prefix { OnErr result (GotPrefix (refused_text file place reason.now (option_copied name.entry)) (K.written out.old) (K.written out.new)) }
+    ensures whole { OnOk result (K.written out.new ≡ written_with (refused_text file place reason (option_copied name.entry)) (K.written out.old)) }
+    ensures prefix { OnErr result (GotPrefix (refused_text file place reason (option_copied name.entry)) (K.written out.old) (K.written out.new)) }
     ensures failed { OnErr result (Rose (K.faults out.old) (K.faults out.new)) }
     ensures counts { K.faults out.old ≤ K.faults out.new }
 {
     out.put(front_of(file))?;
     put_place(out, place)?;
-    put_reason(out, reason.as_bytes(), name)
+    put_reason(out, reason.word().as_bytes(), name)
 }
 
 // Puts a front, a reason and what it names, and ends the line.

@@ -49,7 +49,7 @@ pub(crate) fn put_answer<K: Sink>(
             place,
             reason,
             name,
-        } => put_refused(out, *file, *place, reason, name.as_ref()),
+        } => put_refused(out, *file, *place, *reason, name.as_ref()),
         Answer::Unread(error) => put_engine(out, error),
         Answer::Stopped(stop) => put_stop(words, *stop, out),
     }

@@ -31,7 +31,7 @@ pub(crate) fn problem_of(alloc: Global, sources: &Sources) -> Result<Problem, An
         ) => Err(Answer::Refused {
             file,
             place,
-            reason: reason.word(),
+            reason,
             name,
         }),
     }

@@ -1,0 +1,388 @@
+use crate::run;
+use std::alloc::Global;
+use up_store::{Failing, MemorySink, MemoryStore, Word};
+use up_text::{List, Memory};
+
+const GRIPPER: &str = "(define (domain gripper)
+ (:predicates (room ?r) (ball ?b) (free) (at-robby ?r) (at ?b ?r) (carry ?b))
+ (:action move :parameters (?f ?t)
+  :precondition (and (room ?f) (room ?t) (at-robby ?f))
+  :effect (and (at-robby ?t) (not (at-robby ?f))))
+ (:action pick :parameters (?b ?r)
+  :precondition (and (ball ?b) (room ?r) (at ?b ?r) (at-robby ?r) (free))
+  :effect (and (carry ?b) (not (at ?b ?r)) (not (free))))
+ (:action drop :parameters (?b ?r)
+  :precondition (and (ball ?b) (room ?r) (carry ?b) (at-robby ?r))
+  :effect (and (at ?b ?r) (free) (not (carry ?b)))))
+";
+
+const ROOMS: &str = "(define (problem two-rooms) (:domain gripper)
+ (:objects rooma roomb ball1)
+ (:init (room rooma) (room roomb) (ball ball1) (free)
+  (at-robby rooma) (at ball1 rooma))
+ (:goal (at ball1 roomb)))
+";
+
+const ENGINE: &str = "name = \"e\"\nfeatures = [\"ACTION_PARAMETERS\"]\n";
+
+const WRITTEN_DOMAIN: &str = "(define (domain gripper)
+(:requirements :strips)
+(:predicates (room ?x1) (ball ?x1) (free) (at-robby ?x1) (at ?x1 ?x2) (carry ?x1))
+(:action move :parameters (?f ?t) :precondition (and (room ?f) (room ?t) (at-robby ?f)) :effect (and (at-robby ?t) (not (at-robby ?f))))
+(:action pick :parameters (?b ?r) :precondition (and (ball ?b) (room ?r) (at ?b ?r) (at-robby ?r) (free)) :effect (and (carry ?b) (not (at ?b ?r)) (not (free))))
+(:action drop :parameters (?b ?r) :precondition (and (ball ?b) (room ?r) (carry ?b) (at-robby ?r)) :effect (and (at ?b ?r) (free) (not (carry ?b))))
+)
+";
+
+const WRITTEN_PROBLEM: &str = "(define (problem two-rooms)
+(:domain gripper)
+(:objects rooma roomb ball1)
+(:init (room rooma) (room roomb) (ball ball1) (free) (at-robby rooma) (at ball1 rooma))
+(:goal (at ball1 roomb))
+)
+";
+
+const WRITTEN_MAP: &str = "up-map 1
+chain
+action move 2 keep move $1 $2
+action pick 2 keep pick $1 $2
+action drop 2 keep drop $1 $2
+end
+";
+
+// Doors: SD with a problem that has a goal.
+const DOORS: &str = "(define (domain s) (:types door)
+ (:predicates (p) (q) (r) (open ?d - door))
+ (:action a :precondition (p) :effect (and (q) (not (p)))))
+";
+
+const LOCATIONS: &str = "(define (domain l) (:types truck place) (:constants depot - place)
+ (:functions (loc ?t - truck) - place)
+ (:action home :effect (forall (?t - truck) (assign (loc ?t) depot))))
+";
+
+const LOCATION: &str = "(define (problem l1) (:domain l) (:objects t1 t2 - truck away - place)
+ (:init (= (loc t1) away))
+ (:goal (= (loc t1) depot)))
+";
+
+const COMPILE: &str = "compile d p e od op m";
+
+// What a run left behind.
+#[derive(Drop)]
+struct Outcome {
+    code: u8,
+    store: MemoryStore,
+    sink: MemorySink,
+}
+
+fn word(alloc: Global, text: &str) -> Result<Word, Memory> {
+    Word::read(alloc, text.as_bytes()).map_err(|_| Memory)
+}
+
+fn failing(alloc: Global, call: u64, kept: Option<u64>) -> Result<List<Failing>, Memory> {
+    let mut plans = List::new(alloc);
+    plans.push(Failing { call, kept })?;
+    Ok(plans)
+}
+
+fn store_of(alloc: Global, texts: [&[u8]; 3], plans: List<Failing>) -> Result<MemoryStore, Memory> {
+    let mut store = MemoryStore::new(alloc, plans);
+    let [domain, problem, engine] = texts;
+    store.hold(&word(alloc, "d")?, domain)?;
+    store.hold(&word(alloc, "p")?, problem)?;
+    store.hold(&word(alloc, "e")?, engine)?;
+    Ok(store)
+}
+
+// Runs a line of words on a store, over a sink that takes so many bytes.
+fn run_line(
+    alloc: Global,
+    line: &str,
+    store: MemoryStore,
+    most: Option<u64>,
+) -> Result<Outcome, Memory> {
+    let mut store = store;
+    let mut words = Vec::new(alloc);
+    for text in line.split(' ') {
+        words.push(word(alloc, text)?)?;
+    }
+    let mut sink = MemorySink::new(alloc, 1000, most)?;
+    let status = run(alloc, words.as_slice(), &mut store, &mut sink);
+    Ok(Outcome {
+        code: status.code(),
+        store,
+        sink,
+    })
+}
+
+fn run_texts(alloc: Global, line: &str, texts: [&str; 3]) -> Result<Outcome, Memory> {
+    let [domain, problem, engine] = texts;
+    let texts = [domain.as_bytes(), problem.as_bytes(), engine.as_bytes()];
+    let store = store_of(alloc, texts, List::new(alloc))?;
+    run_line(alloc, line, store, None)
+}
+
+fn is_held(outcome: &Outcome, alloc: Global, name: &str, want: Option<&str>) -> bool {
+    let Ok(name) = word(alloc, name) else {
+        return false;
+    };
+    match (outcome.store.get(&name), want) {
+        (None, None) => true,
+        (Some(text), Some(want)) => text == want.as_bytes(),
+        _ => false,
+    }
+}
+
+#[test]
+fn compiles_the_gripper(rt: HostRuntime) {
+    let alloc = rt.alloc();
+    let outcome = run_texts(alloc, COMPILE, [GRIPPER, ROOMS, ENGINE]).expect(&rt, "room");
+    assert_eq!(rt; outcome.sink.bytes(), b"done actions 3\n".as_slice());
+    assert_eq!(rt; outcome.code, 0);
+    assert!(rt; is_held(&outcome, alloc, "od", Some(WRITTEN_DOMAIN)));
+    assert!(rt; is_held(&outcome, alloc, "op", Some(WRITTEN_PROBLEM)));
+    assert!(rt; is_held(&outcome, alloc, "m", Some(WRITTEN_MAP)));
+}
+
+// Words, the domain, the problem and the engine; the status and the text.
+const CASES: [(&str, [&str; 3], u8, &str); 22] = [
+    (
+        "kind d p",
+        [GRIPPER, ROOMS, ""],
+        0,
+        "ACTION_PARAMETERS\nEFFECT_OVERLAP\n",
+    ),
+    (
+        "kind d p",
+        [LOCATIONS, LOCATION, ""],
+        0,
+        "FLAT_TYPING\nEQUALITIES\nFORALL_EFFECTS\nOBJECT_FLUENTS\nOBJECT_TERMS_UNDER_FORALL\nPARTIAL_FLUENTS\n",
+    ),
+    (
+        "kind d p",
+        [
+            "(define (domain z) (:predicates (p)))",
+            "(define (problem y) (:domain z) (:goal (p)))",
+            "",
+        ],
+        0,
+        "",
+    ),
+    ("pipeline d p e", [GRIPPER, ROOMS, ENGINE], 0, "chain\n"),
+    (
+        "pipeline d p e",
+        [GRIPPER, ROOMS, "name = \"e\"\nfeatures = []"],
+        9,
+        "no pipeline\n",
+    ),
+    (
+        "compile d p e od op m 1",
+        [GRIPPER, ROOMS, ENGINE],
+        0,
+        "done actions 3\n",
+    ),
+    (
+        "compile d p e od op m 5000000",
+        [GRIPPER, ROOMS, ENGINE],
+        0,
+        "done actions 3\n",
+    ),
+    (
+        COMPILE,
+        [GRIPPER, ROOMS, "name = \"e\"\nfeatures = []"],
+        9,
+        "no pipeline\n",
+    ),
+    (
+        COMPILE,
+        [GRIPPER, ROOMS, "name = \"e\"\nfeatures = [\"FLYING\"]"],
+        8,
+        "engine refused unknown-feature FLYING\n",
+    ),
+    (
+        COMPILE,
+        [GRIPPER, ROOMS, "name ="],
+        8,
+        "engine refused toml\n",
+    ),
+    (
+        COMPILE,
+        [GRIPPER, ROOMS, ""],
+        8,
+        "engine refused no-key features\n",
+    ),
+    (
+        COMPILE,
+        [GRIPPER, ROOMS, "name = 3\nfeatures = []"],
+        8,
+        "engine refused wrong-type name\n",
+    ),
+    (
+        COMPILE,
+        [GRIPPER, ROOMS, "name = \"e\"\nfeatures = []\nspeed = 3"],
+        8,
+        "engine refused unknown-key speed\n",
+    ),
+    (
+        COMPILE,
+        ["(define (domain z) (:types a - b b - a))", ROOMS, ENGINE],
+        6,
+        "domain refused 1:28 type-cycle a\n",
+    ),
+    (
+        COMPILE,
+        ["", ROOMS, ENGINE],
+        6,
+        "domain refused 1:1 expected\n",
+    ),
+    (
+        COMPILE,
+        [
+            DOORS,
+            "(define (problem s1) (:domain s) (:init (p)) (:goal (p x)))",
+            ENGINE,
+        ],
+        7,
+        "problem refused 1:53 arity p\n",
+    ),
+    (
+        "compile d p gone od op m",
+        [GRIPPER, ROOMS, ENGINE],
+        3,
+        "missing gone\n",
+    ),
+    ("kind d gone", [GRIPPER, ROOMS, ENGINE], 3, "missing gone\n"),
+    (
+        "pipeline gone d p",
+        [GRIPPER, ROOMS, ENGINE],
+        3,
+        "missing gone\n",
+    ),
+    (
+        "compile d p e x x m",
+        [GRIPPER, ROOMS, ENGINE],
+        1,
+        "usage\n",
+    ),
+    (
+        "compile d p e d y m",
+        [GRIPPER, ROOMS, ENGINE],
+        1,
+        "usage\n",
+    ),
+    (
+        "compile d p e od op m 0",
+        [GRIPPER, ROOMS, ENGINE],
+        1,
+        "usage\n",
+    ),
+];
+
+#[test]
+fn answers_with_status_and_text(rt: HostRuntime) {
+    let alloc = rt.alloc();
+    for (line, texts, code, text) in CASES {
+        let outcome = run_texts(alloc, line, texts).expect(&rt, "room");
+        assert_eq!(rt; outcome.sink.bytes(), text.as_bytes());
+        assert_eq!(rt; outcome.code, code);
+        assert!(rt; code == 0 || is_held(&outcome, alloc, "od", None));
+    }
+}
+
+// Lines that fit no command.
+const USAGE: [&str; 12] = [
+    "",
+    "kind",
+    "kind d",
+    "kind d p e",
+    "pipeline d p",
+    "compile d p e od op",
+    "compile d p e od op e",
+    "compile d p e od op m 01",
+    "compile d p e od op m +1",
+    "compile d p e od op m 5000001",
+    "compile d p e od op m 1 1",
+    "plan d p e od op m",
+];
+
+#[test]
+fn refuses_other_words(rt: HostRuntime) {
+    let alloc = rt.alloc();
+    for line in USAGE {
+        let outcome = run_texts(alloc, line, [GRIPPER, ROOMS, ENGINE]).expect(&rt, "room");
+        assert_eq!(rt; outcome.code, 1);
+        assert_eq!(rt; outcome.sink.bytes(), b"usage\n".as_slice());
+    }
+}
+
+// The call that fails and how much of a write stands; the status and the text; OD, OP and M.
+const FAULTS: [(u64, Option<u64>, u8, &str, [Option<&str>; 3]); 6] = [
+    (1, None, 4, "read fault d\n", [None, None, None]),
+    (2, None, 4, "read fault p\n", [None, None, None]),
+    (3, None, 4, "read fault e\n", [None, None, None]),
+    (4, None, 5, "write fault\n", [None, None, None]),
+    (
+        5,
+        Some(10),
+        5,
+        "write fault\n",
+        [Some(WRITTEN_DOMAIN), Some("(define (p"), None],
+    ),
+    (
+        6,
+        Some(0),
+        5,
+        "write fault\n",
+        [Some(WRITTEN_DOMAIN), Some(WRITTEN_PROBLEM), Some("")],
+    ),
+];
+
+#[test]
+fn keeps_what_was_written_before_a_fault(rt: HostRuntime) {
+    let alloc = rt.alloc();
+    let texts = [GRIPPER.as_bytes(), ROOMS.as_bytes(), ENGINE.as_bytes()];
+    for (call, kept, code, text, held) in FAULTS {
+        let plans = failing(alloc, call, kept).expect(&rt, "room");
+        let store = store_of(alloc, texts, plans).expect(&rt, "room");
+        let outcome = run_line(alloc, COMPILE, store, None).expect(&rt, "room");
+        assert_eq!(rt; outcome.code, code);
+        assert_eq!(rt; outcome.sink.bytes(), text.as_bytes());
+        let [domain, problem, map] = held;
+        assert!(rt; is_held(&outcome, alloc, "od", domain));
+        assert!(rt; is_held(&outcome, alloc, "op", problem));
+        assert!(rt; is_held(&outcome, alloc, "m", map));
+    }
+}
+
+#[test]
+fn a_failed_put_is_a_write_fault(rt: HostRuntime) {
+    let alloc = rt.alloc();
+    let texts = [GRIPPER.as_bytes(), ROOMS.as_bytes(), ENGINE.as_bytes()];
+    let store = store_of(alloc, texts, List::new(alloc)).expect(&rt, "room");
+    let outcome = run_line(alloc, COMPILE, store, Some(4)).expect(&rt, "room");
+    assert_eq!(rt; outcome.code, 5);
+    assert_eq!(rt; outcome.sink.bytes(), b"done".as_slice());
+    assert!(rt; is_held(&outcome, alloc, "m", Some(WRITTEN_MAP)));
+}
+
+#[test]
+fn reads_no_longer_text(rt: HostRuntime) {
+    let alloc = rt.alloc();
+    let mut blanks = Vec::new(alloc);
+    blanks.resize(16_777_216, b' ').expect(&rt, "room");
+    let texts = [blanks.as_slice(), b"", b""];
+    let store = store_of(alloc, texts, List::new(alloc)).expect(&rt, "room");
+    let outcome = run_line(alloc, COMPILE, store, None).expect(&rt, "room");
+    assert_eq!(rt; outcome.code, 6);
+    assert_eq!(rt;
+        outcome.sink.bytes(),
+        b"domain refused 1:1 expected\n".as_slice()
+    );
+    blanks.push(b' ').expect(&rt, "room");
+    let texts = [blanks.as_slice(), b"", b""];
+    let store = store_of(alloc, texts, List::new(alloc)).expect(&rt, "room");
+    let outcome = run_line(alloc, COMPILE, store, None).expect(&rt, "room");
+    assert_eq!(rt; outcome.code, 16);
+    assert_eq!(rt; outcome.sink.bytes(), b"too large d\n".as_slice());
+}
