@@ -1,5 +1,5 @@
 -- Texts that are handed out piece by piece.
-use Rattle.std.proofs.Common.{◌≡◌, ◌≢◌, ◌∙◌, ℕ, ◌+◌, ◌<◌, List, [], ◌∷◌, ◌++◌, length, refl, sym, ap, append_assoc, arith}
+use Rattle.std.proofs.Common.{◌≡◌, ◌≢◌, ◌∙◌, ℕ, ◌<◌, List, [], ◌∷◌, ◌++◌, length, refl, sym, ap, append_assoc, arith}
 use Rattle.std.proofs.lemmas.List.{length-append}
 use Rattle.up_store.specs.Outside.{IsSuffix}
 

@@ -1,4 +1,4 @@
-ghost use Rattle.std.specs.Prelude.{◌≡◌, ◌↔◌, ◌≤◌, [], ◌==◌, find, Some, None, Err, option_map, ℕ, List, IfOk, IfSome, IsSome, IsSomeAnd, IsNone, IsOk, IsErr, IsTrue, OnOk, OnErr, IsErrOf};
+ghost use Rattle.std.specs.Prelude.{◌≡◌, ◌↔◌, ◌≤◌, [], ◌==◌, find, min, Some, None, Err, option_map, ℕ, List, IfOk, IfSome, IsSome, IsSomeAnd, IsNone, IsOk, IsErr, IsTrue, OnOk, OnErr, IsErrOf};
 ghost use Rattle.std.specs.Option.{option_copied};
 ghost use Rattle.up_store.specs.Outside.{with_file, held_with, IsSuffix, KeepsOrCuts, ReadAnswers, Rose, NoneFalls};
 ghost use Rattle.up_store.specs.Planned.{text_of, planned};
@@ -55,14 +55,21 @@ fn newest<'a>(texts: &'a [Text], name: &[u8]) -> Option<&'a [u8]>
     None
 }
 
+// How many bytes stand of a text of this length.
+fn kept_length(kept: u64, length: usize) -> usize
+    ensures { result ≡ min kept length }
+{
+    kept.min(length as u64) as usize
+}
+
 // A text in front of the others.
-fn add_text(alloc: Global, texts: &mut Vec<Text>, name: &[u8], bytes: &[u8]) -> Result<(), Memory>
-    ensures ok { OnOk result (text_of texts.new.items ≡ with_file name.now bytes.now (text_of texts.old.items)) }
+fn add_text(alloc: Global, texts: &mut Vec<Text>, name: &[u8], bytes: Vec<u8>) -> Result<(), Memory>
+    ensures ok { OnOk result (text_of texts.new.items ≡ with_file name.now bytes.items (text_of texts.old.items)) }
     ensures err { OnErr result (texts.new.items ≡ texts.old.items) }
 {
     let text = Text {
         name: name.to_vec(alloc)?,
-        bytes: bytes.to_vec(alloc)?,
+        bytes,
     };
     texts.insert(0, text)?;
     Ok(())
@@ -109,7 +116,31 @@ impl MemoryStore {
         ensures err { OnErr result (files_of self.new ≡ files_of self.old) }
         ensures counts { SameCounts self.old self.new }
     {
+        let bytes = bytes.to_vec(self.alloc)?;
+        self.hold_owned(name, bytes)
+    }
+
+    // Puts owned bytes under a name.
+    fn hold_owned(&mut self, name: &Word, bytes: Vec<u8>) -> Result<(), Memory>
+        ensures ok { OnOk result (files_of self.new ≡ with_file name.now bytes.items (files_of self.old)) }
+        ensures err { OnErr result (files_of self.new ≡ files_of self.old) }
+        ensures counts { SameCounts self.old self.new }
+    {
         add_text(self.alloc, &mut self.texts, name.bytes(), bytes)
+    }
+
+    // Puts all pieces together under a name.
+    fn hold_pieces<P: Pieces>(&mut self, name: &Word, pieces: &mut P) -> Result<(), Memory>
+        ensures ok { OnOk result (files_of self.new ≡ with_file name.now (P.rest pieces.old) (files_of self.old)) }
+        ensures err { OnErr result (files_of self.new ≡ files_of self.old) }
+        ensures counts { SameCounts self.old self.new }
+        ensures end { OnOk result (P.rest pieces.new ≡ []) }
+        ensures left { OnErr result (IsSuffix (P.rest pieces.new) (P.rest pieces.old)) }
+    {
+        match gather(self.alloc, pieces) {
+            Ok(bytes) => self.hold_owned(name, bytes),
+            Err(Memory) => Err(Memory),
+        }
     }
 
     // What stands after a write that fails as planned.
@@ -123,10 +154,35 @@ impl MemoryStore {
         match plan.kept {
             None => Ok(()),
             Some(kept) => {
-                let most = kept.min(bytes.len() as u64) as usize;
+                let most = kept_length(kept, bytes.len());
                 self.hold(name, &bytes[..most])?;
                 Ok(())
             }
+        }
+    }
+
+    // What stands of the pieces after a write that fails as planned.
+    fn hold_cut_pieces<P: Pieces>(
+        &mut self,
+        plan: Failing,
+        name: &Word,
+        pieces: &mut P,
+    ) -> Result<(), Memory>
+        ensures ok { OnOk result (files_of self.new ≡ cut_texts plan name.now (P.rest pieces.old) (files_of self.old)) }
+        ensures refused { plan.kept ≡ None → IsOk result }
+        ensures err { OnErr result (files_of self.new ≡ files_of self.old) }
+        ensures counts { SameCounts self.old self.new }
+        ensures left { IsSuffix (P.rest pieces.new) (P.rest pieces.old) }
+    {
+        let Some(kept) = plan.kept else {
+            return Ok(());
+        };
+        match gather(self.alloc, pieces) {
+            Ok(mut bytes) => {
+                bytes.truncate(kept_length(kept, bytes.len()));
+                self.hold_owned(name, bytes)
+            }
+            Err(Memory) => Err(Memory),
         }
     }
 
@@ -251,11 +307,12 @@ impl Store for MemoryStore {
 
     fn write_pieces<P: Pieces>(
         &mut self,
-        alloc: Global,
+        _: Global,
         name: &Word,
         pieces: &mut P,
     ) -> Result<(), WriteFail>
         ensures planned { IfSome (next_plan self.old) (λ plan. IsErr result) }
+        ensures refused { IfSome (next_plan self.old) (λ plan. plan.kept ≡ None → result ≡ Err WriteFail.Failed) }
         ensures cut_at { IfSome (next_plan self.old) (λ plan. IsErrOf result WriteFail.Failed → files_of self.new ≡ cut_texts plan name.now (P.rest pieces.old) (files_of self.old)) }
         ensures unplanned { IsNone (next_plan self.old) → ¬ IsErrOf result WriteFail.Failed }
         ensures quiet { IsNone (next_plan self.old) → losses_of self.new ≡ losses_of self.old }
@@ -271,9 +328,16 @@ impl Store for MemoryStore {
         ensures end { OnOk result (P.rest pieces.new ≡ []) }
         ensures left { OnErr result (IsSuffix (P.rest pieces.new) (P.rest pieces.old)) }
     {
-        let plan = self.plan_call();
-        match gather(alloc, pieces) {
-            Ok(bytes) => self.write_planned(plan, name, bytes.as_slice()),
+        let Some(plan) = self.plan_call() else {
+            return self
+                .hold_pieces(name, pieces)
+                .map_err(|_| WriteFail::Memory);
+        };
+        match self.hold_cut_pieces(plan, name, pieces) {
+            Ok(()) => {
+                self.losses = self.losses.saturating_add(1);
+                Err(WriteFail::Failed)
+            }
             Err(Memory) => Err(WriteFail::Memory),
         }
     }
