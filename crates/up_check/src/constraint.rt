@@ -5,7 +5,7 @@ use crate::scope::{Binder, Scope};
 use crate::term::Setting;
 use pddl_parse::{RawConstraint, RawFormula, RawGroup};
 use std::alloc::Global;
-use up_text::List;
+use up_text::{List, Memory};
 use up_tree::{Constraint, Formula, Rule};
 
 // The walk over nested constraints, which lists the simple ones.
@@ -77,19 +77,51 @@ impl Flattening {
         checked_formula(alloc, names, &mut self.scope, Setting::Constraint, raw)
     }
 
+    fn two_formulas(
+        &mut self,
+        alloc: Global,
+        names: &Names,
+        f: &RawFormula,
+        g: &RawFormula,
+    ) -> Result<(Formula, Formula), Fault> {
+        match self.formula(alloc, names, f) {
+            Ok(f) => self.with_second(alloc, names, f, g),
+            Err(fault) => Err(fault),
+        }
+    }
+
+    fn with_second(
+        &mut self,
+        alloc: Global,
+        names: &Names,
+        f: Formula,
+        g: &RawFormula,
+    ) -> Result<(Formula, Formula), Fault> {
+        match self.formula(alloc, names, g) {
+            Ok(g) => Ok((f, g)),
+            Err(fault) => Err(fault),
+        }
+    }
+
     fn always(&mut self, alloc: Global, names: &Names, f: &RawFormula) -> Result<(), Fault> {
-        let f = self.formula(alloc, names, f)?;
-        self.push(alloc, Rule::Always(f))
+        match self.formula(alloc, names, f) {
+            Ok(f) => self.push(alloc, Rule::Always(f)),
+            Err(fault) => Err(fault),
+        }
     }
 
     fn sometime(&mut self, alloc: Global, names: &Names, f: &RawFormula) -> Result<(), Fault> {
-        let f = self.formula(alloc, names, f)?;
-        self.push(alloc, Rule::Sometime(f))
+        match self.formula(alloc, names, f) {
+            Ok(f) => self.push(alloc, Rule::Sometime(f)),
+            Err(fault) => Err(fault),
+        }
     }
 
     fn at_most_once(&mut self, alloc: Global, names: &Names, f: &RawFormula) -> Result<(), Fault> {
-        let f = self.formula(alloc, names, f)?;
-        self.push(alloc, Rule::AtMostOnce(f))
+        match self.formula(alloc, names, f) {
+            Ok(f) => self.push(alloc, Rule::AtMostOnce(f)),
+            Err(fault) => Err(fault),
+        }
     }
 
     fn sometime_after(
@@ -99,9 +131,10 @@ impl Flattening {
         f: &RawFormula,
         g: &RawFormula,
     ) -> Result<(), Fault> {
-        let f = self.formula(alloc, names, f)?;
-        let g = self.formula(alloc, names, g)?;
-        self.push(alloc, Rule::SometimeAfter(f, g))
+        match self.two_formulas(alloc, names, f, g) {
+            Ok((f, g)) => self.push(alloc, Rule::SometimeAfter(f, g)),
+            Err(fault) => Err(fault),
+        }
     }
 
     fn sometime_before(
@@ -111,15 +144,29 @@ impl Flattening {
         f: &RawFormula,
         g: &RawFormula,
     ) -> Result<(), Fault> {
-        let f = self.formula(alloc, names, f)?;
-        let g = self.formula(alloc, names, g)?;
-        self.push(alloc, Rule::SometimeBefore(f, g))
+        match self.two_formulas(alloc, names, f, g) {
+            Ok((f, g)) => self.push(alloc, Rule::SometimeBefore(f, g)),
+            Err(fault) => Err(fault),
+        }
     }
 
     fn push(&mut self, alloc: Global, rule: Rule) -> Result<(), Fault> {
-        let vars = self.scope.since(alloc, 0)?;
-        self.constraints.push(Constraint { vars, rule })?;
-        Ok(())
+        match self.scope.since(alloc, 0) {
+            Ok(vars) => Ok(self.constraints.push(Constraint { vars, rule })?),
+            Err(Memory) => Err(Fault::Memory),
+        }
+    }
+
+    fn flattened(
+        mut self,
+        alloc: Global,
+        names: &Names,
+        raw: &RawConstraint,
+    ) -> Result<List<Constraint>, Fault> {
+        match self.constraint(alloc, names, raw) {
+            Ok(()) => Ok(self.constraints),
+            Err(fault) => Err(fault),
+        }
     }
 }
 
@@ -133,10 +180,9 @@ pub fn push_constraints(
     raw: &RawConstraint,
     into: List<Constraint>,
 ) -> Result<List<Constraint>, Fault> {
-    let mut flattening = Flattening {
+    let flattening = Flattening {
         scope: Scope::new(alloc),
         constraints: into,
     };
-    flattening.constraint(alloc, names, raw)?;
-    Ok(flattening.constraints)
+    flattening.flattened(alloc, names, raw)
 }

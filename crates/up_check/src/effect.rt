@@ -240,14 +240,17 @@ impl Flattening {
         body: &RawEffect,
     ) -> Result<(), Fault> {
         let outer = self.scope.barred_len();
-        if self.begin_when(alloc, names, condition)? {
-            self.effect(alloc, names, body)?;
-            self.whens.pop();
-        } else {
-            self.effect(alloc, names, body)?;
-        }
-        self.scope.unbar(outer);
+        let is_set = self.begin_when(alloc, names, condition)?;
+        self.effect(alloc, names, body)?;
+        self.end_when(is_set, outer);
         Ok(())
+    }
+
+    fn end_when(&mut self, is_set: bool, barred: usize) {
+        if is_set {
+            self.whens.pop();
+        }
+        self.scope.unbar(barred);
     }
 
     // Sets a condition over what comes next, and says whether it isn't the empty `and`.
@@ -257,17 +260,31 @@ impl Flattening {
         names: &Names,
         condition: &RawFormula,
     ) -> Result<bool, Fault> {
-        let condition = checked_formula(alloc, names, &mut self.scope, Setting::Plain, condition)?;
-        Ok(self.set_over(alloc, condition)?)
+        match checked_formula(alloc, names, &mut self.scope, Setting::Plain, condition) {
+            Ok(condition) => self.set_over(alloc, condition),
+            Err(fault) => Err(fault),
+        }
     }
 
-    fn set_over(&mut self, alloc: Global, condition: Formula) -> Result<bool, Memory> {
+    fn set_over(&mut self, alloc: Global, condition: Formula) -> Result<bool, Fault> {
         self.scope.bar(alloc, &condition)?;
         if is_empty(&condition) {
             return Ok(false);
         }
         self.whens.push(condition)?;
         Ok(true)
+    }
+
+    fn flattened(
+        mut self,
+        alloc: Global,
+        names: &Names,
+        raw: &RawEffect,
+    ) -> Result<List<Row>, Fault> {
+        match self.effect(alloc, names, raw) {
+            Ok(()) => Ok(self.rows),
+            Err(fault) => Err(fault),
+        }
     }
 
     fn add(&mut self, alloc: Global, names: &Names, atom: &RawCall) -> Result<(), Fault> {
@@ -328,12 +345,11 @@ pub fn checked_rows(
     raw: &RawEffect,
 ) -> Result<List<Row>, Fault> {
     let params = scope.len();
-    let mut flattening = Flattening {
+    let flattening = Flattening {
         scope,
         params,
         whens: List::new(alloc),
         rows: List::new(alloc),
     };
-    flattening.effect(alloc, names, raw)?;
-    Ok(flattening.rows)
+    flattening.flattened(alloc, names, raw)
 }

@@ -67,12 +67,7 @@ fn check_domain(alloc: Global, name: &Name, stated: &Ident) -> Result<(), Fault>
     if &stated.name == name {
         Ok(())
     } else {
-        Err(named(
-            alloc,
-            stated.place,
-            Reason::WrongDomain,
-            &stated.name,
-        ))
+        Err(named(alloc, stated.place, Reason::WrongDomain, &stated.name))
     }
 }
 

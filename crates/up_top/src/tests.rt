@@ -146,7 +146,7 @@ fn compiles_the_gripper(rt: HostRuntime) {
 }
 
 // Words, the domain, the problem and the engine; the status and the text.
-const CASES: [(&str, [&str; 3], u8, &str); 22] = [
+const CASES: [(&str, [&str; 3], u8, &str); 25] = [
     (
         "kind d p",
         [GRIPPER, ROOMS, ""],
@@ -238,6 +238,24 @@ const CASES: [(&str, [&str; 3], u8, &str); 22] = [
     ),
     (
         COMPILE,
+        ["(define (domain g)) )", ROOMS, ENGINE],
+        6,
+        "domain refused 1:21 unopened\n",
+    ),
+    (
+        COMPILE,
+        [GRIPPER, "; rooms\r\n\t(define é)", ENGINE],
+        7,
+        "problem refused 2:10 bad-byte\n",
+    ),
+    (
+        COMPILE,
+        [GRIPPER, "(define 1234567890123456789)", ENGINE],
+        7,
+        "problem refused 1:9 bad-number\n",
+    ),
+    (
+        COMPILE,
         [
             DOORS,
             "(define (problem s1) (:domain s) (:init (p)) (:goal (p x)))",
@@ -287,6 +305,22 @@ fn answers_with_status_and_text(rt: HostRuntime) {
         assert_eq!(rt; outcome.sink.bytes(), text.as_bytes());
         assert_eq!(rt; outcome.code, code);
         assert!(rt; code == 0 || is_held(&outcome, alloc, "od", None));
+    }
+}
+
+#[test]
+fn opens_no_bracket_past_two_hundred(rt: HostRuntime) {
+    let alloc = rt.alloc();
+    for (count, text) in [
+        (200, "domain refused 1:200 unclosed\n"),
+        (201, "domain refused 1:201 too-deep\n"),
+    ] {
+        let brackets = vec![in alloc; b'('; count].expect(&rt, "room");
+        let texts = [brackets.as_slice(), ROOMS.as_bytes(), ENGINE.as_bytes()];
+        let store = store_of(alloc, texts, List::new(alloc)).expect(&rt, "room");
+        let outcome = run_line(alloc, COMPILE, store, None).expect(&rt, "room");
+        assert_eq!(rt; outcome.sink.bytes(), text.as_bytes());
+        assert_eq!(rt; outcome.code, 6);
     }
 }
 
