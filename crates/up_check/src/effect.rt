@@ -192,7 +192,11 @@ impl Flattening {
                 self.for_all(alloc, names, groups.as_slice(), body.get())
             }
             RawEffect::When(condition, body) => {
-                self.conditional(alloc, names, condition, body.get())
+                let outer = self.scope.barred_len();
+                let is_set = self.begin_when(alloc, names, condition)?;
+                self.effect(alloc, names, body.get())?;
+                self.end_when(is_set, outer);
+                Ok(())
             }
             RawEffect::Add(atom) => self.add(alloc, names, atom),
             RawEffect::Delete(atom) => self.delete(alloc, names, atom),
@@ -231,28 +235,6 @@ impl Flattening {
         Ok(())
     }
 
-    #[cycle(effect)]
-    fn conditional(
-        &mut self,
-        alloc: Global,
-        names: &Names,
-        condition: &RawFormula,
-        body: &RawEffect,
-    ) -> Result<(), Fault> {
-        let outer = self.scope.barred_len();
-        let is_set = self.begin_when(alloc, names, condition)?;
-        self.effect(alloc, names, body)?;
-        self.end_when(is_set, outer);
-        Ok(())
-    }
-
-    fn end_when(&mut self, is_set: bool, barred: usize) {
-        if is_set {
-            self.whens.pop();
-        }
-        self.scope.unbar(barred);
-    }
-
     // Sets a condition over what comes next, and says whether it isn't the empty `and`.
     fn begin_when(
         &mut self,
@@ -264,6 +246,14 @@ impl Flattening {
             Ok(condition) => self.set_over(alloc, condition),
             Err(fault) => Err(fault),
         }
+    }
+
+    // Takes it away again, and bars only so many names as before.
+    fn end_when(&mut self, is_set: bool, barred: usize) {
+        if is_set {
+            self.whens.pop();
+        }
+        self.scope.unbar(barred);
     }
 
     fn set_over(&mut self, alloc: Global, condition: Formula) -> Result<bool, Fault> {
