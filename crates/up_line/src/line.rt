@@ -1,4 +1,4 @@
-ghost use Rattle.std.specs.Prelude.{◌≡◌, ◌+◌, ◌-◌, ◌≤◌, ◌^◌, ◌<◌, length, IfOk, IfSome, OnSome};
+ghost use Rattle.std.specs.Prelude.{◌≡◌, ◌+◌, ◌-◌, ◌≤◌, ◌^◌, ◌<◌, length, IfOk, IfSome, IsSome, OnSome};
 ghost use Rattle.up_line.specs.Sheet.{after, blank, room};
 
 use std::alloc::Global;
@@ -76,6 +76,7 @@ impl Line {
     pub fn count(&self) -> Option<usize>
         ensures some { IfSome result (λ n. n + self.now.left ≡ 2 ^ 64 - 1) }
         ensures none { OnSome result (0 < self.now.left) }
+        ensures countable { 0 < self.now.left → IsSome result }
     {
         if self.left == 0 {
             None

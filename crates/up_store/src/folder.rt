@@ -19,7 +19,12 @@ pub struct FolderStore<'r, R: Files> {
 
 impl<'r, R: Files> FolderStore<'r, R> {
     /// The store over the working folder of the process.
-    pub fn new(rt: &'r R) -> FolderStore<'r, R> {
+    pub fn new(rt: &'r R) -> FolderStore<'r, R>
+        ensures faults { result.faults ≡ 0 }
+        ensures misses { result.misses ≡ 0 }
+        ensures larges { result.larges ≡ 0 }
+        ensures losses { result.losses ≡ 0 }
+    {
         FolderStore {
             rt,
             faults: 0,

@@ -170,6 +170,7 @@ impl MemoryStore {
     ) -> Result<(), Memory>
         ensures ok { OnOk result (files_of self.new ≡ cut_texts plan name.now (P.rest pieces.old) (files_of self.old)) }
         ensures refused { plan.kept ≡ None → IsOk result }
+        ensures untouched { plan.kept ≡ None → P.rest pieces.new ≡ P.rest pieces.old }
         ensures err { OnErr result (files_of self.new ≡ files_of self.old) }
         ensures counts { SameCounts self.old self.new }
         ensures left { IsSuffix (P.rest pieces.new) (P.rest pieces.old) }
@@ -313,6 +314,7 @@ impl Store for MemoryStore {
     ) -> Result<(), WriteFail>
         ensures planned { IfSome (next_plan self.old) (λ plan. IsErr result) }
         ensures refused { IfSome (next_plan self.old) (λ plan. plan.kept ≡ None → result ≡ Err WriteFail.Failed) }
+        ensures untouched { IfSome (next_plan self.old) (λ plan. plan.kept ≡ None → P.rest pieces.new ≡ P.rest pieces.old) }
         ensures cut_at { IfSome (next_plan self.old) (λ plan. IsErrOf result WriteFail.Failed → files_of self.new ≡ cut_texts plan name.now (P.rest pieces.old) (files_of self.old)) }
         ensures unplanned { IsNone (next_plan self.old) → ¬ IsErrOf result WriteFail.Failed }
         ensures quiet { IsNone (next_plan self.old) → losses_of self.new ≡ losses_of self.old }

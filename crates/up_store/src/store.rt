@@ -27,6 +27,11 @@ pub enum ReadFail {
 }
 
 impl From<Memory> for ReadFail {
+    ghost use Rattle.std.specs.Prelude.{◌≡◌};
+    ghost use Rattle.up_store.specs.declared.store.ReadFail.TheVariants.{Memory as OfMemory};
+
+    ghost from_gives = { λ _ e. e ≡ OfMemory };
+
     fn from(_: Memory) -> ReadFail {
         ReadFail::Memory
     }
@@ -44,6 +49,11 @@ pub enum WriteFail {
 }
 
 impl From<Memory> for WriteFail {
+    ghost use Rattle.std.specs.Prelude.{◌≡◌};
+    ghost use Rattle.up_store.specs.declared.store.WriteFail.TheVariants.{Memory as OfMemory};
+
+    ghost from_gives = { λ _ e. e ≡ OfMemory };
+
     fn from(_: Memory) -> WriteFail {
         WriteFail::Memory
     }

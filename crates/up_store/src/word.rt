@@ -32,6 +32,11 @@ pub enum WordError {
 }
 
 impl From<Memory> for WordError {
+    ghost use Rattle.std.specs.Prelude.{◌≡◌};
+    ghost use Rattle.up_store.specs.declared.word.WordError.TheVariants.{Memory as OfMemory};
+
+    ghost from_gives = { λ _ e. e ≡ OfMemory };
+
     fn from(_: Memory) -> WordError {
         WordError::Memory
     }
