@@ -4,14 +4,11 @@ prints megabytes of input a second, peak memory over the input's size, and how b
 
 It stands outside the gate. Build the program first: any call of ./nadvorzet does so."""
 import os
-import subprocess
 import sys
 import tempfile
-import time
 
-TOP = os.path.dirname(os.path.dirname(os.path.abspath(__file__)))
-PROGRAM = os.path.join(TOP, "crates", "up_main", "out", "up_main")
-RUNS = 5
+sys.dont_write_bytecode = True
+from measure import measured, program
 
 DOMAIN = """(define (domain roads)
   (:predicates (road ?a ?b) (at ?a))
@@ -31,24 +28,8 @@ def problem(facts, objects):
     )
 
 
-def measured(folder, words):
-    """The best wall time of some runs and the greatest peak of resident memory, in seconds and bytes."""
-    best, peak = float("inf"), 0
-    for _ in range(RUNS):
-        before = time.perf_counter()
-        child = subprocess.Popen([PROGRAM, *words], cwd=folder, stdout=subprocess.PIPE)
-        answer = child.stdout.read()
-        _, status, usage = os.wait4(child.pid, 0)
-        best = min(best, time.perf_counter() - before)
-        peak = max(peak, usage.ru_maxrss * 1024)
-        if status != 0 or not answer.startswith(b"done"):
-            sys.exit(f"the program answered {answer!r}")
-    return best, peak
-
-
 def main():
-    if not os.access(PROGRAM, os.X_OK):
-        sys.exit("build the program first: ./nadvorzet")
+    compiler = program("up_main")
     rows = []
     with tempfile.TemporaryDirectory() as folder:
         write = lambda name, text: open(os.path.join(folder, name), "w").write(text)
@@ -56,7 +37,7 @@ def main():
         write("e", 'name = "strips"\nfeatures = ["ACTION_PARAMETERS"]\n')
         for facts in (10_000, 100_000):
             size = write("p", problem(facts, facts // 10)) + len(DOMAIN)
-            seconds, peak = measured(folder, ["compile", "d", "p", "e", "od", "op", "m"])
+            seconds, peak, _ = measured(compiler, ["compile", "d", "p", "e", "od", "op", "m"], folder)
             rows.append((facts, size, seconds, peak))
             print(f"{facts:>7} facts: {size / 1e6:6.2f} MB of input, {size / 1e6 / seconds:7.2f} MB/s, "
                   f"peak memory {peak / size:5.1f} times the input")
