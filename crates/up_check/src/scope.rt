@@ -1,3 +1,4 @@
+use crate::declare::check_type;
 use crate::fault::{Fault, named};
 use crate::names::{Names, object};
 use crate::reason::Reason;
@@ -35,13 +36,7 @@ fn type_named(alloc: Global, of: &Option<Ident>) -> Result<Name, Memory> {
 fn known_type(alloc: Global, names: &Names, of: &Option<Ident>) -> Result<(), Fault> {
     match of {
         None => Ok(()),
-        Some(of) => {
-            if names.is_type(&of.name) {
-                Ok(())
-            } else {
-                Err(named(alloc, of.place, Reason::UnknownName, &of.name))
-            }
-        }
+        Some(of) => check_type(alloc, names, of),
     }
 }
 
