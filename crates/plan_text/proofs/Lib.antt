@@ -1,0 +1,3 @@
+pub mod Gathering
+pub mod Splitting
+pub mod Wording

@@ -1,0 +1,5 @@
+pub mod Bytes
+pub mod Lines
+pub mod Seen
+pub mod Steps
+pub mod Texts
