@@ -1,3 +1,5 @@
+pub mod Fronts
 pub mod Gathering
+pub mod Spelled
 pub mod Splitting
 pub mod Wording

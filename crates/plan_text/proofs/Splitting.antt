@@ -75,7 +75,7 @@ one_line_other byte (next ∷ rest) other none =
     by_test (next == 10) refl
 
 -- a text without a line feed is one line
-one_line : (byte : ℕ) (rest : List ℕ) → drop (front_length is_in_line (byte ∷ rest)) (byte ∷ rest) ≡ []
+pub one_line : (byte : ℕ) (rest : List ℕ) → drop (front_length is_in_line (byte ∷ rest)) (byte ∷ rest) ≡ []
     → lines (byte ∷ rest) ≡ take (front_length is_in_line (byte ∷ rest)) (byte ∷ rest) ∷ []
 one_line byte rest none =
     let by_test : (b : Bool) → (byte == 10) ≡ b → lines (byte ∷ rest) ≡ take (front_length is_in_line (byte ∷ rest)) (byte ∷ rest) ∷ [] = elim [
@@ -124,7 +124,7 @@ feed_other byte rest feed behind other is others =
     by_test (is_return byte rest) refl
 
 -- the first line of a text with a line feed
-feed_line : (text : List ℕ) (feed : ℕ) (behind : List ℕ) → drop (front_length is_in_line text) text ≡ feed ∷ behind
+pub feed_line : (text : List ℕ) (feed : ℕ) (behind : List ℕ) → drop (front_length is_in_line text) text ≡ feed ∷ behind
     → lines text ≡ without_return (take (front_length is_in_line text) text) ∷ lines behind
 feed_line [] feed behind is = absurd cc
 feed_line (byte ∷ rest) feed behind is =

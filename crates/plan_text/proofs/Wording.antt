@@ -39,7 +39,7 @@ words_left byte rest is =
     ∙ ap (λ (left : List ℕ). words left) (drop_sum (front_length is_name_byte rest) (front_length is_blank (behind is_name_byte rest)) rest
     ∙ ap (λ (left : List ℕ). behind is_blank left) (sym (name_behind byte rest is)))
 
-words_at : (byte : ℕ) (rest : List ℕ) → is_name_byte byte ≡ true
+pub words_at : (byte : ℕ) (rest : List ℕ) → is_name_byte byte ≡ true
     → words (byte ∷ rest) ≡ with_name (name_of (folded (take_while is_name_byte (byte ∷ rest)))) (byte ∷ rest) (words (behind is_blank (behind is_name_byte (byte ∷ rest))))
 words_at byte rest is =
     words_then byte rest is

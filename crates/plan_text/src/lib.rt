@@ -3,6 +3,7 @@
 
 mod bytes;
 mod error;
+mod law;
 mod line;
 mod line_fault;
 mod part;
@@ -13,5 +14,6 @@ mod word;
 mod write;
 
 pub use error::PlanTextError;
+pub use law::plan_text_law;
 pub use read::read_plan;
 pub use write::write_plan;

@@ -1,0 +1,12 @@
+ghost use Rattle.std.specs.Prelude.{◌≡◌, Ok, List};
+ghost use Rattle.up_tree.specs.declared.problem.Step.{Step};
+ghost use Rattle.plan_text.specs.Spells.{PlanText};
+ghost use Rattle.plan_text.specs.Texts.{steps_of};
+
+/// A law: a text is read as the steps that it spells, and so spells one list of steps at most.
+#[tactic(auto, using(crate::proofs::Spelled::spelled_read))]
+pub fn plan_text_law(text: &[u8])
+    ensures spelled { (steps : List Step) → PlanText text.now steps → steps_of text.now ≡ Ok steps }
+{
+    let _ = text;
+}
