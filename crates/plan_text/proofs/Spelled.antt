@@ -119,7 +119,7 @@ past_label front rest (label number before after is num before_blanks after_blan
     ∙ ap (λ (text : List ℕ). read.past_label text) (label_parts number before after rest)
     ∙ chosen (is_digit (first line)) (read.and_then (read.past_number line) (read.past 58)) (Ok line) (number_first number (before ++ 58 ∷ (after ++ 40 ∷ rest)) num)
     ∙ then_ok (read.past_number line) (read.past 58) (58 ∷ (after ++ 40 ∷ rest))
-      (past_number number before 58 (after ++ 40 ∷ rest) num before_blanks (record { digit = refl; point = refl; blank = refl }))
+    (past_number number before 58 (after ++ 40 ∷ rest) num before_blanks (record { digit = refl; point = refl; blank = refl }))
     ∙ past_byte 58 after (40 ∷ rest) refl after_blanks refl
 
 label_stops : (label rest : List ℕ) → IsLabel label → stops is_blank (label ++ 40 ∷ rest) ≡ true
@@ -135,9 +135,9 @@ past_cost bytes (cost inside number before after is inside_blanks num before_bla
     let line : List ℕ = number ++ (before ++ 93 ∷ after) in
     ap read.past_cost is
     ∙ ap (λ (left : List ℕ). read.and_then (read.past_number left) (read.past 93))
-      (behind_front is_blank inside line inside_blanks (digit_stops line (number_first number (before ++ 93 ∷ after) num)))
+    (behind_front is_blank inside line inside_blanks (digit_stops line (number_first number (before ++ 93 ∷ after) num)))
     ∙ then_ok (read.past_number line) (read.past 93) (93 ∷ after)
-      (past_number number before 93 after num before_blanks (record { digit = refl; point = refl; blank = refl }))
+    (past_number number before 93 after num before_blanks (record { digit = refl; point = refl; blank = refl }))
     ∙ ap (λ (left : List ℕ). Ok left) (behind_all is_blank after after_blanks)
 
 cost_stops : (bytes : List ℕ) → IsCost bytes → stops is_blank bytes ≡ true
@@ -165,10 +165,10 @@ next_word (byte ∷ bytes) name rest w stop =
     let line : List ℕ = (byte ∷ bytes) ++ rest in
     words_at byte (bytes ++ rest) here
     ∙ ap (λ (front : List ℕ). read.with_name (name_of (folded front)) line (read.words (behind is_blank (behind is_name_byte line))))
-      (take_front is_name_byte (byte ∷ bytes) rest w.of_name stop)
+    (take_front is_name_byte (byte ∷ bytes) rest w.of_name stop)
     ∙ ap (λ (found : Option (List ℕ)). read.with_name found line (read.words (behind is_blank (behind is_name_byte line)))) w.named
     ∙ ap (λ (left : List ℕ). read.and_then (read.words (behind is_blank left)) (read.add_name name))
-      (behind_front is_name_byte (byte ∷ bytes) rest w.of_name stop)
+    (behind_front is_name_byte (byte ∷ bytes) rest w.of_name stop)
 
 args_stop : (args : List ℕ) (names : List (List ℕ)) (before rest : List ℕ) → AreWords args names → AreBlanks before
     → stops is_name_byte (args ++ (before ++ 41 ∷ rest)) ≡ true
@@ -202,14 +202,14 @@ one_step bytes made s =
     let inner : List ℕ = s.inside ++ (s.action ++ tail) in
     ap read.step s.parts
     ∙ then_ok (read.past_label (s.label ++ 40 ∷ inner)) (λ rest. read.and_then (read.past 40 rest) (λ inside. read.and_then (read.word inside) read.with_action)) (40 ∷ inner)
-      (past_label s.label inner s.is_label)
+    (past_label s.label inner s.is_label)
     ∙ then_ok (read.past 40 (40 ∷ inner)) (λ inside. read.and_then (read.word inside) read.with_action) (s.action ++ tail)
-      (past_byte 40 s.inside (s.action ++ tail) refl s.inside_blanks (word_stops s.action made.action tail s.is_action))
+    (past_byte 40 s.inside (s.action ++ tail) refl s.inside_blanks (word_stops s.action made.action tail s.is_action))
     ∙ then_ok (read.word (s.action ++ tail)) read.with_action (record { name = made.action; left = behind is_blank tail })
-      (one_word s.action made.action tail s.is_action (args_stop s.args made.args s.before (s.after ++ s.cost) s.are_args s.before_blanks))
+    (one_word s.action made.action tail s.is_action (args_stop s.args made.args s.before (s.after ++ s.cost) s.are_args s.before_blanks))
     ∙ then_ok (read.words (behind is_blank tail)) (λ args. read.closed (record { action = made.action; args = args.names }) args.left)
-      (record { names = made.args; left = end })
-      (all_words s.args made.args s.are_args s.before (s.after ++ s.cost) s.before_blanks)
+    (record { names = made.args; left = end })
+    (all_words s.args made.args s.are_args s.before (s.after ++ s.cost) s.before_blanks)
     ∙ closed made s.after s.cost s.after_blanks s.is_cost
 
 some_step : (text : List ℕ) (made : Step) → read.step text ≡ Ok made → read.some_step text ≡ Ok (Some made)

@@ -20,7 +20,7 @@ pub ends_in_return : (line front : List ℕ) (last : ℕ) → line ≡ front ++ 
 ends_in_return line front last is same = rw (is, same) (sym (return_off front))
 
 -- or another byte
-return_none : (front : List ℕ) (last : ℕ) → (last == 13) ≡ false → without_return (front ++ last ∷ []) ≡ front ++ last ∷ []
+pub return_none : (front : List ℕ) (last : ℕ) → (last == 13) ≡ false → without_return (front ++ last ∷ []) ≡ front ++ last ∷ []
 return_none [] last is = rw is refl
 return_none (byte ∷ []) last is = rw is refl
 return_none (byte ∷ other ∷ front) last is = ap (λ (line : List ℕ). byte ∷ line) (return_none (other ∷ front) last is)

@@ -1,5 +1,6 @@
 -- The plan of a text, and the text of a plan.
-use Rattle.std.specs.Prelude.{ℕ, ◌+◌, ◌-◌, ◌^◌, min, List, [], ◌∷◌, ◌++◌, length, flat_map, codes, Option, Some, None, Result, Ok, Err}
+use Rattle.std.specs.Prelude.{ℕ, All, ◌+◌, ◌-◌, ◌^◌, min, List, [], ◌∷◌, ◌++◌, length, flat_map, codes, Option, Some, None, Result, Ok, Err}
+use Rattle.up_text.specs.Names.{IsName}
 use Rattle.up_text.specs.declared.place.Place.{Place}
 use Rattle.up_tree.specs.declared.problem.Step.{Step}
 use Rattle.up_tree.specs.declared.problem.Plan.{Plan}
@@ -53,3 +54,8 @@ step_text step = codes "(" ++ step.action ++ flat_map (λ arg. codes " " ++ arg)
 -- a line for each step
 abbrev pub plan_text : Plan → List ℕ
 plan_text plan = flat_map step_text plan.steps
+
+-- the action and the arguments of a step are names
+pub record HasNames (step : Step) : Type 0 where
+  pub action : IsName step.action
+  pub args : All IsName step.args

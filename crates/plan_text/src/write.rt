@@ -1,5 +1,6 @@
-ghost use Rattle.std.specs.Prelude.{◌≡◌, ◌++◌, ◌∷◌, flat_map, codes, IfOk, OnOk};
-ghost use Rattle.plan_text.specs.Texts.{step_text, plan_text};
+ghost use Rattle.std.specs.Prelude.{◌≡◌, ◌++◌, ◌∷◌, All, flat_map, codes, Ok, IfOk, OnOk};
+ghost use Rattle.up_text.specs.Names.{IsName};
+ghost use Rattle.plan_text.specs.Texts.{step_text, plan_text, steps_of, HasNames};
 
 use std::alloc::Global;
 use up_text::{Memory, Name};
@@ -7,7 +8,8 @@ use up_tree::{Plan, Step};
 
 // Names, each with a space before it.
 fn add_args(text: &mut Vec<u8>, args: &[Name]) -> Result<(), Memory>
-    ensures { OnOk result (text.new.items ≡ text.old.items ++ flat_map (λ arg. codes " " ++ arg) args.now) }
+    ensures text { OnOk result (text.new.items ≡ text.old.items ++ flat_map (λ arg. codes " " ++ arg) args.now) }
+    ensures names { OnOk result (All IsName args.now) }
 {
     for arg in args {
         text.push(b' ')?;
@@ -17,7 +19,8 @@ fn add_args(text: &mut Vec<u8>, args: &[Name]) -> Result<(), Memory>
 }
 
 fn add_step(text: &mut Vec<u8>, step: &Step) -> Result<(), Memory>
-    ensures { OnOk result (text.new.items ≡ text.old.items ++ step_text step.now) }
+    ensures text { OnOk result (text.new.items ≡ text.old.items ++ step_text step.now) }
+    ensures names { OnOk result (HasNames step.now) }
 {
     text.push(b'(')?;
     text.extend_from_slice(step.action.bytes())?;
@@ -26,15 +29,26 @@ fn add_step(text: &mut Vec<u8>, step: &Step) -> Result<(), Memory>
     Ok(())
 }
 
-/// The text of a plan: a line for each step, `(name name ..)`.
+// Lines for steps.
+fn add_steps(text: &mut Vec<u8>, steps: &[Step]) -> Result<(), Memory>
+    ensures text { OnOk result (text.new.items ≡ text.old.items ++ flat_map step_text steps.now) }
+    ensures names { OnOk result (All HasNames steps.now) }
+{
+    for step in steps {
+        add_step(text, step)?;
+    }
+    Ok(())
+}
+
+/// The text of a plan: a line for each step, `(name name ..)`. It is read as that plan.
 ///
 /// Errors: `Memory` where the text finds no room.
+#[tactic(auto, using(crate::proofs::Written::written_read))]
 pub fn write_plan(alloc: Global, plan: &Plan) -> Result<Vec<u8>, Memory>
-    ensures { IfOk result (λ text. text.items ≡ plan_text plan.now) }
+    ensures text { IfOk result (λ text. text.items ≡ plan_text plan.now) }
+    ensures reads_back { IfOk result (λ text. steps_of text.items ≡ Ok plan.now.steps) }
 {
     let mut text = Vec::new(alloc);
-    for step in plan.steps.as_slice() {
-        add_step(&mut text, step)?;
-    }
+    add_steps(&mut text, plan.steps.as_slice())?;
     Ok(text)
 }
