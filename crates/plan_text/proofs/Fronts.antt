@@ -1,6 +1,6 @@
 -- Bytes that pass a test, before what stops it.
 use Rattle.std.proofs.Common.{◌≡◌, ℕ, suc, Bool, true, false, not, ◌&&◌, List, [], ◌∷◌, ◌++◌, length, drop, refl, ap, sym, ◌∙◌, append-nil, arith}
-use Rattle.std.specs.Prelude.{take_while}
+use Rattle.std.specs.Prelude.{take_while, take, if◌then◌else◌}
 use Rattle.std.specs.List.{list_all}
 use Rattle.std.proofs.lemmas.Bool.{and_parts, false≢true}
 use Rattle.std.proofs.lemmas.List.Sums.{take_while-cons}
@@ -40,3 +40,13 @@ stops_on test other [] rest differ passes stop = stop
 stops_on test other (byte ∷ bytes) rest differ passes stop =
     let (here, others) = and_parts (test byte) (list_all test bytes) passes in
     rw (differ byte here) refl
+
+pub chosen : {A : Type 0} (b : Bool) (x y : A) → b ≡ true → (if b then x else y) ≡ x
+chosen b x y is = rw is refl
+
+pub other : {A : Type 0} (b : Bool) (x y : A) → b ≡ false → (if b then x else y) ≡ y
+other b x y is = rw is refl
+
+pub take_length : (bytes rest : List ℕ) → take (length bytes) (bytes ++ rest) ≡ bytes
+take_length [] rest = refl
+take_length (byte ∷ bytes) rest = ap (λ (front : List ℕ). byte ∷ front) (take_length bytes rest)

@@ -1,7 +1,9 @@
 pub mod Fronts
 pub mod Gathering
 pub mod Gone
+pub mod Parts
 pub mod Spelled
 pub mod Splitting
+pub mod Whole
 pub mod Wording
 pub mod Written

@@ -12,7 +12,7 @@ use Rattle.plan_text.specs.Steps as read
 use Rattle.plan_text.specs.declared.error.PlanTextError.{PlanTextError}
 use Rattle.plan_text.specs.Texts.{cut, placed, found_in, with_found, steps_from, steps_of}
 use Rattle.plan_text.specs.Spells.{AreBlanks, AreDigits, IsNumber, whole, decimal, IsLabel, no_label, label, IsCost, no_cost, cost, IsWord, AreWords, no_words, words, IsStep, Has, blank, step, IsComment, no_comment, comment, IsLine, PlanText, last, line}
-use Rattle.plan_text.proofs.Fronts.{stops, take_front, behind_front, behind_all, stops_on}
+use Rattle.plan_text.proofs.Fronts.{stops, take_front, behind_front, behind_all, stops_on, chosen, other, take_length}
 use Rattle.plan_text.proofs.Splitting.{feed_line, one_line}
 use Rattle.plan_text.proofs.Wording.{words_at}
 
@@ -34,12 +34,6 @@ blank_no_point byte is = grind (arith, nat_tests)
 -- a byte and blanks behind it
 past_byte : (byte : ℕ) (blanks rest : List ℕ) → (byte == byte) ≡ true → AreBlanks blanks → stops is_blank rest ≡ true → read.past byte (byte ∷ (blanks ++ rest)) ≡ Ok rest
 past_byte byte blanks rest same are stop = rw same (ap (λ (left : List ℕ). Ok left) (behind_front is_blank blanks rest are stop))
-
-chosen : {A : Type 0} (b : Bool) (x y : A) → b ≡ true → (if b then x else y) ≡ x
-chosen b x y is = rw is refl
-
-other : {A : Type 0} (b : Bool) (x y : A) → b ≡ false → (if b then x else y) ≡ y
-other b x y is = rw is refl
 
 past_digits : (digits rest : List ℕ) → AreDigits digits → stops is_digit rest ≡ true → read.past_digits (digits ++ rest) ≡ Ok rest
 past_digits [] rest are stop = absurd are
@@ -70,10 +64,10 @@ then_ok : {A B : Type 0} (part : read.Part A) (go : A → read.Part B) (value : 
 then_ok part go value is = ap (λ (p : read.Part _). read.and_then p go) is
 
 -- what follows digits in a number, and blanks
-abbrev past_rest : List ℕ → read.Part (List ℕ)
+abbrev pub past_rest : List ℕ → read.Part (List ℕ)
 past_rest rest = Ok (behind is_blank rest)
 
-abbrev past_more : List ℕ → read.Part (List ℕ)
+abbrev pub past_more : List ℕ → read.Part (List ℕ)
 past_more fraction = read.and_then (read.past_fraction fraction) past_rest
 
 past_number : (number blanks : List ℕ) (byte : ℕ) (rest : List ℕ) → IsNumber number → AreBlanks blanks → Ends byte
@@ -236,10 +230,6 @@ line_found number bytes found l =
     ap content l.parts ∙ take_front is_before_comment l.text l.comment l.before_comment (comment_stops l.comment l.is_comment) in
     ap (λ (text : List ℕ). placed number text (read.line_step text)) is
     ∙ ap (placed number l.text) (one_line_step l.text found l.has)
-
-take_length : (bytes rest : List ℕ) → take (length bytes) (bytes ++ rest) ≡ bytes
-take_length [] rest = refl
-take_length (byte ∷ bytes) rest = ap (λ (front : List ℕ). byte ∷ front) (take_length bytes rest)
 
 feed_end : (bytes rest : List ℕ) → list_all is_in_line bytes ≡ true → lines (bytes ++ 10 ∷ rest) ≡ without_return bytes ∷ lines rest
 feed_end bytes rest all =
