@@ -1,6 +1,7 @@
 pub mod Fronts
 pub mod Gathering
 pub mod Gone
+pub mod Laws
 pub mod Parts
 pub mod Spelled
 pub mod Splitting

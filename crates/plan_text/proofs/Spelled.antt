@@ -11,7 +11,7 @@ use Rattle.plan_text.specs.Lines.{lines, content, is_in_line, is_before_comment,
 use Rattle.plan_text.specs.Steps as read
 use Rattle.plan_text.specs.declared.error.PlanTextError.{PlanTextError}
 use Rattle.plan_text.specs.Texts.{cut, placed, found_in, with_found, steps_from, steps_of}
-use Rattle.plan_text.specs.Spells.{AreBlanks, AreDigits, IsNumber, whole, decimal, IsLabel, no_label, label, IsCost, no_cost, cost, IsWord, AreWords, no_words, words, IsStep, Has, blank, step, IsComment, no_comment, comment, IsLine, PlanText, last, line}
+use Rattle.plan_text.specs.Spells.{AreBlanks, AreDigits, IsNumber, whole, decimal, IsLabel, no_label, label, IsCost, no_cost, cost, IsWord, AreWords, no_words, words, IsStep, Has, blank, step, IsComment, no_comment, comment, IsLine, SpellsSteps, last, line}
 use Rattle.plan_text.proofs.Fronts.{stops, take_front, behind_front, behind_all, stops_on, chosen, other, take_length}
 use Rattle.plan_text.proofs.Splitting.{feed_line, one_line}
 use Rattle.plan_text.proofs.Wording.{words_at}
@@ -260,7 +260,7 @@ last_steps number (byte ∷ bytes) found all l =
     ∙ ap (λ (here : Result (Option Step) PlanTextError). with_found here (Ok [])) (line_found number (byte ∷ bytes) found l)
     ∙ with_more found [] ∙ ap (λ (steps : List Step). Ok steps) (append-nil (option_to_list found))
 
-steps_read : (text : List ℕ) (steps : List Step) → PlanText text steps → (number : ℕ) → steps_from number (lines text) ≡ Ok steps
+steps_read : (text : List ℕ) (steps : List Step) → SpellsSteps text steps → (number : ℕ) → steps_from number (lines text) ≡ Ok steps
 steps_read text _ (last bytes found all l) number = last_steps number bytes found all l
 steps_read _ _ (line bytes rest found steps all l more) number =
     ap (steps_from number) (feed_end bytes rest all)
@@ -268,6 +268,6 @@ steps_read _ _ (line bytes rest found steps all l more) number =
     ∙ ap (with_found (Ok found)) (steps_read rest steps more (cut (number + 1)))
     ∙ with_more found steps
 
-pub spelled_read : (text : List ℕ) (steps : List Step) → PlanText text steps → steps_of text ≡ Ok steps
+pub spelled_read : (text : List ℕ) (steps : List Step) → SpellsSteps text steps → steps_of text ≡ Ok steps
 unfolding steps_of
 spelled_read text steps spelled = steps_read text steps spelled 1

@@ -8,7 +8,7 @@ use Rattle.plan_text.specs.declared.error.PlanTextError.{PlanTextError}
 use Rattle.plan_text.specs.Bytes.{front_length, behind}
 use Rattle.plan_text.specs.Lines.{lines, content, is_in_line, is_before_comment, without_return}
 use Rattle.plan_text.specs.Steps.{Part, line_step}
-use Rattle.plan_text.specs.Spells.{IsComment, no_comment, comment, IsLine, PlanText, last, line}
+use Rattle.plan_text.specs.Spells.{IsComment, no_comment, comment, IsLine, SpellsSteps, last, line}
 use Rattle.plan_text.specs.Texts.{cut, placed, found_in, with_found, steps_from, steps_of}
 use Rattle.plan_text.proofs.Fronts.{stops, take_length}
 use Rattle.plan_text.proofs.Parts.{front_parts, front_passes, behind_stops, drop_length, line_read}
@@ -59,10 +59,10 @@ front_take text =
     ap (take (front_length is_in_line text)) (front_parts is_in_line text) ∙ take_length (take_while is_in_line text) (behind is_in_line text)
 
 -- the last line
-last_read : (number : ℕ) (text : List ℕ) (steps : List Step) → behind is_in_line text ≡ [] → steps_from number (lines text) ≡ Ok steps → PlanText text steps
+last_read : (number : ℕ) (text : List ℕ) (steps : List Step) → behind is_in_line text ≡ [] → steps_from number (lines text) ≡ Ok steps → SpellsSteps text steps
 last_read number [] steps none is =
     let same : [] ≡ steps = cc in
-    subst (PlanText []) same (last [] None refl (found_read number [] None refl))
+    subst (SpellsSteps []) same (last [] None refl (found_read number [] None refl))
 last_read number (byte ∷ text) steps none is =
     let all : take_while is_in_line (byte ∷ text) ≡ byte ∷ text =
     sym (front_parts is_in_line (byte ∷ text) ∙ ap (λ (bytes : List ℕ). take_while is_in_line (byte ∷ text) ++ bytes) none ∙ append-nil (take_while is_in_line (byte ∷ text))) in
@@ -72,14 +72,14 @@ last_read number (byte ∷ text) steps none is =
     let blank : [] ≡ f.others = let more : Ok [] ≡ Ok f.others = f.more_is in cc in
     let same : option_to_list f.found ≡ steps =
     sym (append-nil (option_to_list f.found)) ∙ ap (λ (others : List Step). option_to_list f.found ++ others) blank ∙ f.all in
-    subst (PlanText (byte ∷ text)) same (last (byte ∷ text) f.found
+    subst (SpellsSteps (byte ∷ text)) same (last (byte ∷ text) f.found
     (subst (λ (bytes : List ℕ). list_all is_in_line bytes ≡ true) all (front_passes is_in_line (byte ∷ text)))
     (found_read number (byte ∷ text) f.found f.here_is))
 
 -- a line and those behind it
 line_more : (number : ℕ) (text : List ℕ) (feed : ℕ) (rest : List ℕ) (steps : List Step) → behind is_in_line text ≡ feed ∷ rest
-    → ((others : List Step) → steps_from (cut (number + 1)) (lines rest) ≡ Ok others → PlanText rest others)
-    → steps_from number (lines text) ≡ Ok steps → PlanText text steps
+    → ((others : List Step) → steps_from (cut (number + 1)) (lines rest) ≡ Ok others → SpellsSteps rest others)
+    → steps_from number (lines text) ≡ Ok steps → SpellsSteps text steps
 line_more number text feed rest steps left go is =
     let front : List ℕ = take_while is_in_line text in
     let stop : stops is_in_line (feed ∷ rest) ≡ true = ap (stops is_in_line) (sym left) ∙ behind_stops is_in_line text in
@@ -89,7 +89,7 @@ line_more number text feed rest steps left go is =
     let f = with_read (found_in number (without_return front)) (steps_from (cut (number + 1)) (lines rest)) steps (ap (steps_from number) (sym lines_are) ∙ is) in
     let parts : text ≡ front ++ 10 ∷ rest =
     front_parts is_in_line text ∙ ap (λ (bytes : List ℕ). front ++ bytes) (left ∙ ap (λ (byte : ℕ). byte ∷ rest) feed_is) in
-    subst (λ (bytes : List ℕ). PlanText bytes steps) (sym parts) (subst (PlanText (front ++ 10 ∷ rest)) f.all
+    subst (λ (bytes : List ℕ). SpellsSteps bytes steps) (sym parts) (subst (SpellsSteps (front ++ 10 ∷ rest)) f.all
     (line front rest f.found f.others (front_passes is_in_line text) (found_read number (without_return front) f.found f.here_is)
     (go f.others f.more_is)))
 
@@ -97,12 +97,12 @@ behind_length : (text : List ℕ) (feed : ℕ) (rest : List ℕ) → behind is_i
 behind_length text feed rest left = subst (λ (bytes : List ℕ). length bytes ≤ length text) left (drop_length (front_length is_in_line text) text)
 
 text_left : (number : ℕ) (text : List ℕ) (steps : List Step) → steps_from number (lines text) ≡ Ok steps
-    → ((feed : ℕ) (rest : List ℕ) → behind is_in_line text ≡ feed ∷ rest → (others : List Step) → steps_from (cut (number + 1)) (lines rest) ≡ Ok others → PlanText rest others)
-    → (left : List ℕ) → behind is_in_line text ≡ left → PlanText text steps
+    → ((feed : ℕ) (rest : List ℕ) → behind is_in_line text ≡ feed ∷ rest → (others : List Step) → steps_from (cut (number + 1)) (lines rest) ≡ Ok others → SpellsSteps rest others)
+    → (left : List ℕ) → behind is_in_line text ≡ left → SpellsSteps text steps
 text_left number text steps is go [] left = last_read number text steps left is
 text_left number text steps is go (feed ∷ rest) left = line_more number text feed rest steps left (go feed rest left) is
 
-text_read : (n number : ℕ) (text : List ℕ) (steps : List Step) → length text ≤ n → steps_from number (lines text) ≡ Ok steps → PlanText text steps
+text_read : (n number : ℕ) (text : List ℕ) (steps : List Step) → length text ≤ n → steps_from number (lines text) ≡ Ok steps → SpellsSteps text steps
 text_read zero number text steps few is =
     text_left number text steps is (λ feed rest left others found.
     let less = behind_length text feed rest left in absurd (omega (arith, less, few))) (behind is_in_line text) refl
@@ -111,6 +111,6 @@ text_read (suc n) number text steps few is =
     let less = behind_length text feed rest left in
     text_read n (cut (number + 1)) rest others (omega (arith, less, few)) found) (behind is_in_line text) refl
 
-pub read_spelled : (text : List ℕ) (steps : List Step) → steps_of text ≡ Ok steps → PlanText text steps
+pub read_spelled : (text : List ℕ) (steps : List Step) → steps_of text ≡ Ok steps → SpellsSteps text steps
 unfolding steps_of
 read_spelled text steps is = text_read (length text) 1 text steps (omega arith) is

@@ -1,6 +1,6 @@
 -- The text of a plan spells its steps.
 use Rattle.std.proofs.Common.{◌≡◌, ℕ, Bool, true, false, List, [], ◌∷◌, ◌++◌, map, refl, ap, sym, ◌∙◌, subst, append_assoc, append-nil, arith, codes}
-use Rattle.std.specs.Prelude.{Option, Some, None, Ok, All, flat_map, IsTrue, not, ◌==◌, ◌&&◌, ◌||◌, if◌then◌else◌}
+use Rattle.std.specs.Prelude.{Option, Some, None, All, flat_map, IsTrue, not, ◌==◌, ◌&&◌, ◌||◌, if◌then◌else◌}
 use Rattle.std.specs.Char.{to_ascii_lowercase}
 use Rattle.std.specs.List.{list_all}
 use Rattle.std.proofs.lemmas.Bool.{and_parts, false≢true}
@@ -12,10 +12,9 @@ use Rattle.up_tree.specs.declared.problem.Step.{Step}
 use Rattle.up_tree.specs.declared.problem.Plan.{Plan}
 use Rattle.plan_text.specs.Bytes.{is_name_byte}
 use Rattle.plan_text.specs.Lines.{is_in_line, is_before_comment, without_return}
-use Rattle.plan_text.specs.Spells.{IsWord, AreWords, no_words, words, IsLabel, no_label, IsCost, no_cost, IsStep, Has, blank, step, IsComment, no_comment, IsLine, PlanText, last, line}
-use Rattle.plan_text.specs.Texts.{step_text, plan_text, steps_of, HasNames}
+use Rattle.plan_text.specs.Spells.{IsWord, AreWords, no_words, words, IsLabel, no_label, IsCost, no_cost, IsStep, Has, blank, step, IsComment, no_comment, IsLine, SpellsSteps, last, line, PlanText}
+use Rattle.plan_text.specs.Texts.{step_text, plan_text, HasNames}
 use Rattle.plan_text.proofs.Splitting.{return_none}
-use Rattle.plan_text.proofs.Spelled.{spelled_read}
 
 goes_on_name : (byte : ℕ) → goes_on byte ≡ true → is_name_byte byte ≡ true
 goes_on_name byte is = grind (arith, nat_tests)
@@ -150,16 +149,15 @@ text_parts made rest =
 no_line : IsLine [] None
 no_line = record { text = []; comment = []; parts = refl; before_comment = refl; is_comment = no_comment refl; has = blank refl }
 
-written : (steps : List Step) → All HasNames steps → PlanText (flat_map step_text steps) steps
+written : (steps : List Step) → All HasNames steps → SpellsSteps (flat_map step_text steps) steps
 written [] are = last [] None refl no_line
 written (made ∷ steps) are =
     let names : HasNames made = All-head HasNames made steps are in
-    subst (λ (text : List ℕ). PlanText text (made ∷ steps)) (text_parts made (flat_map step_text steps))
+    subst (λ (text : List ℕ). SpellsSteps text (made ∷ steps)) (text_parts made (flat_map step_text steps))
     (line (body made) (flat_map step_text steps) (Some made) steps
     (body_passes is_in_line (record { name = name_in_line; open_bracket = refl; close_bracket = refl; space = refl }) made names)
     (subst (λ (text : List ℕ). IsLine text (Some made)) (sym (no_return made)) (body_line made names))
     (written steps (All-tail HasNames made steps are)))
 
--- so it is read as that plan
-pub written_read : (plan : Plan) → All HasNames plan.steps → steps_of (plan_text plan) ≡ Ok plan.steps
-written_read plan are = spelled_read (plan_text plan) plan.steps (written plan.steps are)
+pub written_plan : (plan : Plan) → All HasNames plan.steps → PlanText (plan_text plan) plan
+written_plan plan are = written plan.steps are

@@ -3,6 +3,7 @@ use Rattle.std.specs.Prelude.{◌≡◌, ℕ, true, List, [], ◌∷◌, ◌++�
 use Rattle.std.specs.List.{list_all}
 use Rattle.up_text.specs.Names.{name_of, folded}
 use Rattle.up_tree.specs.declared.problem.Step.{Step}
+use Rattle.up_tree.specs.declared.problem.Plan.{Plan}
 use Rattle.plan_text.specs.Bytes.{is_blank, is_digit, is_name_byte}
 use Rattle.plan_text.specs.Lines.{is_in_line, is_before_comment, without_return}
 
@@ -81,8 +82,12 @@ pub record IsLine (bytes : List ℕ) (found : Option Step) : Type 0 where
   pub has : Has text found
 
 -- A text spells steps: its lines, each but the last ended by a line feed, have them in their order.
-pub data PlanText : List ℕ → List Step → Type 0 where
+pub data SpellsSteps : List ℕ → List Step → Type 0 where
   last : (line : List ℕ) (found : Option Step) → list_all is_in_line line ≡ true → IsLine line found
-      → PlanText line (option_to_list found)
+      → SpellsSteps line (option_to_list found)
   line : (line rest : List ℕ) (found : Option Step) (steps : List Step) → list_all is_in_line line ≡ true → IsLine (without_return line) found
-      → PlanText rest steps → PlanText (line ++ 10 ∷ rest) (option_to_list found ++ steps)
+      → SpellsSteps rest steps → SpellsSteps (line ++ 10 ∷ rest) (option_to_list found ++ steps)
+
+-- A text spells a plan.
+abbrev pub PlanText : List ℕ → Plan → Type 0
+PlanText text plan = SpellsSteps text plan.steps

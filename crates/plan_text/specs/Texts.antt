@@ -47,6 +47,15 @@ steps_from number (line ∷ lines) = with_found (found_in number line) (steps_fr
 unfoldable pub steps_of : List ℕ → Result (List Step) PlanTextError
 steps_of text = steps_from 1 (lines text)
 
+-- the first fault of what was read, if there is one
+abbrev pub fault_in : Result (List Step) PlanTextError → Option PlanTextError
+fault_in (Ok steps) = None
+fault_in (Err fault) = Some fault
+
+-- the first fault of a text that spells no plan
+abbrev pub first_fault : List ℕ → Option PlanTextError
+first_fault text = fault_in (steps_of text)
+
 -- `(`, the action, its arguments, each with a space before it, `)` and a line feed
 abbrev pub step_text : Step → List ℕ
 step_text step = codes "(" ++ step.action ++ flat_map (λ arg. codes " " ++ arg) step.args ++ codes ")\n"

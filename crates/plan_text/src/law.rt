@@ -1,13 +1,14 @@
-ghost use Rattle.std.specs.Prelude.{◌≡◌, Ok, List};
-ghost use Rattle.up_tree.specs.declared.problem.Step.{Step};
+ghost use Rattle.std.specs.Prelude.{◌≡◌, None};
+ghost use Rattle.up_tree.specs.declared.problem.Plan.{Plan};
 ghost use Rattle.plan_text.specs.Spells.{PlanText};
-ghost use Rattle.plan_text.specs.Texts.{steps_of};
+ghost use Rattle.plan_text.specs.Texts.{first_fault};
 
-/// A law: a text is read as the steps that it spells, and so spells one list of steps at most.
-#[tactic(auto, using(crate::proofs::Spelled::spelled_read, crate::proofs::Whole::read_spelled))]
+/// A law: a text spells a plan exactly where it has no fault, and one plan at most.
+#[tactic(auto, using(crate::proofs::Laws::spelled_faultless, crate::proofs::Laws::faultless_spelled, crate::proofs::Laws::spelled_one))]
 pub fn plan_text_law(text: &[u8])
-    ensures read { (steps : List Step) → steps_of text.now ≡ Ok steps → PlanText text.now steps }
-    ensures spelled { (steps : List Step) → PlanText text.now steps → steps_of text.now ≡ Ok steps }
+    ensures spelled { (plan : Plan) → PlanText text.now plan → first_fault text.now ≡ None }
+    ensures faultless { first_fault text.now ≡ None → (plan : Plan) × PlanText text.now plan }
+    ensures one { (plan other : Plan) → PlanText text.now plan → PlanText text.now other → plan ≡ other }
 {
     let _ = text;
 }

@@ -1,6 +1,7 @@
-ghost use Rattle.std.specs.Prelude.{◌≡◌, ◌++◌, Ok, Err, IfOk, IfErr, OnOk, option_to_list};
+ghost use Rattle.std.specs.Prelude.{◌≡◌, ◌++◌, Ok, Err, Some, IfOk, IfErr, OnOk, option_to_list};
 ghost use Rattle.plan_text.specs.Steps.{closed, step, line_step};
-ghost use Rattle.plan_text.specs.Texts.{place_of, found_in, steps_of};
+ghost use Rattle.plan_text.specs.Spells.{PlanText};
+ghost use Rattle.plan_text.specs.Texts.{place_of, found_in, steps_of, first_fault};
 
 use crate::bytes::behind_blanks;
 use crate::error::PlanTextError;
@@ -95,16 +96,10 @@ fn add_found(found: Option<Step>, steps: &mut List<Step>) -> Result<(), Memory>
     Ok(())
 }
 
-/// The plan that a text spells.
-///
-/// A line is blank or has a step, `(name name ..)`. In front of a step may stand a number and `:`, and behind it a
-/// number in `[` and `]`. Blanks are spaces and tabs, a comment runs from `;` to the end of its line, and letters are
-/// folded to lower case.
-///
-/// Errors: `Bad` at the first fault, `Memory` where the plan finds no room.
+// The steps that a text spells.
 #[tactic(auto, unfolding(crate::specs::Texts::steps_of))]
-pub fn read_plan(alloc: Global, bytes: &[u8]) -> Result<Plan, PlanTextError>
-    ensures plan { IfOk result (λ plan. steps_of bytes.now ≡ Ok plan.steps) }
+fn read_steps(alloc: Global, bytes: &[u8]) -> Result<List<Step>, PlanTextError>
+    ensures read { IfOk result (λ steps. steps_of bytes.now ≡ Ok steps) }
     ensures fault { IfErr result (λ fault. ¬ (fault ≡ PlanTextError.Memory) → steps_of bytes.now ≡ Err fault) }
 {
     let mut steps = List::new(alloc);
@@ -120,5 +115,23 @@ pub fn read_plan(alloc: Global, bytes: &[u8]) -> Result<Plan, PlanTextError>
         rest = behind;
         number = number.saturating_add(1);
     }
-    Ok(Plan { steps })
+    Ok(steps)
+}
+
+/// The plan that a text spells.
+///
+/// A line is blank or has a step, `(name name ..)`. In front of a step may stand a number and `:`, and behind it a
+/// number in `[` and `]`. Blanks are spaces and tabs, a comment runs from `;` to the end of its line, and letters are
+/// folded to lower case.
+///
+/// Errors: `Bad` at the first fault of a text that spells no plan, `Memory` where the plan finds no room.
+#[tactic(auto, using(crate::proofs::Laws::read_plan_spelled, crate::proofs::Laws::first_there))]
+pub fn read_plan(alloc: Global, bytes: &[u8]) -> Result<Plan, PlanTextError>
+    ensures plan { IfOk result (PlanText bytes.now) }
+    ensures fault { IfErr result (λ fault. ¬ (fault ≡ PlanTextError.Memory) → first_fault bytes.now ≡ Some fault) }
+{
+    match read_steps(alloc, bytes) {
+        Ok(steps) => Ok(Plan { steps }),
+        Err(fault) => Err(fault),
+    }
 }

@@ -1,6 +1,7 @@
-ghost use Rattle.std.specs.Prelude.{◌≡◌, ◌++◌, ◌∷◌, All, flat_map, codes, Ok, IfOk, OnOk};
+ghost use Rattle.std.specs.Prelude.{◌≡◌, ◌++◌, ◌∷◌, All, flat_map, codes, IfOk, OnOk};
 ghost use Rattle.up_text.specs.Names.{IsName};
-ghost use Rattle.plan_text.specs.Texts.{step_text, plan_text, steps_of, HasNames};
+ghost use Rattle.plan_text.specs.Spells.{PlanText};
+ghost use Rattle.plan_text.specs.Texts.{step_text, plan_text, HasNames};
 
 use std::alloc::Global;
 use up_text::{Memory, Name};
@@ -40,13 +41,13 @@ fn add_steps(text: &mut Vec<u8>, steps: &[Step]) -> Result<(), Memory>
     Ok(())
 }
 
-/// The text of a plan: a line for each step, `(name name ..)`. It is read as that plan.
+/// The text of a plan: a line for each step, `(name name ..)`. It spells that plan, so it is read as it.
 ///
 /// Errors: `Memory` where the text finds no room.
-#[tactic(auto, using(crate::proofs::Written::written_read))]
+#[tactic(auto, using(crate::proofs::Written::written_plan))]
 pub fn write_plan(alloc: Global, plan: &Plan) -> Result<Vec<u8>, Memory>
     ensures text { IfOk result (λ text. text.items ≡ plan_text plan.now) }
-    ensures reads_back { IfOk result (λ text. steps_of text.items ≡ Ok plan.now.steps) }
+    ensures spells { IfOk result (λ text. PlanText text.items plan.now) }
 {
     let mut text = Vec::new(alloc);
     add_steps(&mut text, plan.steps.as_slice())?;

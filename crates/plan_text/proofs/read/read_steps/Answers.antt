@@ -1,5 +1,5 @@
 use Rattle.plan_text.proofs.Gathering.{steps_step}
-use Rattle.plan_text.proofs.read.read_plan.Goals as goal
+use Rattle.plan_text.proofs.read.read_steps.Goals as goal
 
 pub reading-preserved : goal.reading-preserved
 reading-preserved c =
