@@ -5,7 +5,11 @@ use Rattle.up_tree.specs.declared.problem.Step.{Step}
 use Rattle.plan_text.specs.declared.error.PlanTextError.{PlanTextError}
 use Rattle.plan_text.specs.Lines.{lines}
 use Rattle.plan_text.specs.Texts.{cut, found_in, with_found, steps_from}
-use Rattle.plan_text.specs.Seen.{behind_steps}
+
+-- steps behind others
+abbrev pub behind_steps : List Step → Result (List Step) PlanTextError → Result (List Step) PlanTextError
+behind_steps steps (Ok more) = Ok (steps ++ more)
+behind_steps steps (Err fault) = Err fault
 
 behind_found : (steps : List Step) (found : Option Step) (more : Result (List Step) PlanTextError)
     → behind_steps steps (with_found (Ok found) more) ≡ behind_steps (steps ++ option_to_list found) more

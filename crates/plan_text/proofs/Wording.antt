@@ -6,8 +6,14 @@ use Rattle.std.proofs.lemmas.Bool.{false≢true}
 use Rattle.up_text.specs.Names.{name_of, folded}
 use Rattle.plan_text.specs.declared.line_fault.LineFault.{LineFault}
 use Rattle.plan_text.specs.Bytes.{front_length, first, behind, is_blank, is_name_byte}
-use Rattle.plan_text.specs.Steps.{Part, Word, Words, word, word_of, words, words_from, word_length, with_name, no_words}
-use Rattle.plan_text.specs.Seen.{before}
+use Rattle.plan_text.specs.Steps.{Part, Word, Words, word, word_of, words, words_from, word_length, with_name, no_words, and_then}
+
+abbrev pub names_before : List (List ℕ) → Words → Part Words
+names_before names words = Ok (record { names = names ++ words.names; left = words.left })
+
+-- names behind others
+abbrev pub before : List (List ℕ) → Part Words → Part Words
+before names more = and_then more (names_before names)
 
 -- bytes that belong to what stands before are passed over
 pub passed_over : (line : List ℕ) (more : ℕ) → words_from line more ≡ words_from (drop more line) 0

@@ -1,7 +1,7 @@
 use Rattle.std.proofs.Common.{◌≡◌, length}
 use Rattle.plan_text.specs.Lines.{lines}
 use Rattle.plan_text.specs.Texts.{steps_from}
-use Rattle.plan_text.specs.Seen.{behind_steps}
+use Rattle.plan_text.proofs.Gathering.{behind_steps}
 use Rattle.plan_text.proofs.read.read_steps.Given as goal
 
 -- the text has the steps so far and those of the rest

@@ -1,6 +1,6 @@
 use Rattle.std.proofs.Common.{◌≡◌, length}
 use Rattle.plan_text.specs.Steps.{words}
-use Rattle.plan_text.specs.Seen.{before}
+use Rattle.plan_text.proofs.Wording.{before}
 use Rattle.plan_text.proofs.word.read_words.Given as goal
 
 abbrev pub invariant-reading : goal.invariant-reading
