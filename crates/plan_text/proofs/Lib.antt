@@ -1,0 +1,10 @@
+pub mod Fronts
+pub mod Gathering
+pub mod Gone
+pub mod Laws
+pub mod Parts
+pub mod Spelled
+pub mod Splitting
+pub mod Whole
+pub mod Wording
+pub mod Written
