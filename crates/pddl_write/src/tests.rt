@@ -192,40 +192,69 @@ fn fact(alloc: Global, predicate: &str, args: &[&str]) -> Result<Fact, Memory> {
     })
 }
 
-fn gripper(alloc: Global) -> Result<Problem, Memory> {
-    let declared = [
-        ("room", 1),
-        ("ball", 1),
-        ("free", 0),
-        ("at-robby", 1),
-        ("at", 2),
-        ("carry", 1),
-    ];
-    let atoms = [
-        fact(alloc, "room", &["rooma"])?,
-        fact(alloc, "room", &["roomb"])?,
-        fact(alloc, "ball", &["ball1"])?,
-        fact(alloc, "free", &[])?,
-        fact(alloc, "at-robby", &["rooma"])?,
-        fact(alloc, "at", &["ball1", "rooma"])?,
-    ];
-    let actions = [movement(alloc)?, picking(alloc)?, dropping(alloc)?];
-    Ok(Problem::new(Parts {
-        domain: name(alloc, "gripper")?,
-        name: name(alloc, "two-rooms")?,
+const DECLARED: [(&str, usize); 6] = [
+    ("room", 1),
+    ("ball", 1),
+    ("free", 0),
+    ("at-robby", 1),
+    ("at", 2),
+    ("carry", 1),
+];
+
+const ATOMS: [(&str, &[&str]); 6] = [
+    ("room", &["rooma"]),
+    ("room", &["roomb"]),
+    ("ball", &["ball1"]),
+    ("free", &[]),
+    ("at-robby", &["rooma"]),
+    ("at", &["ball1", "rooma"]),
+];
+
+fn facts(alloc: Global, table: &[(&str, &[&str])]) -> Result<List<Fact>, Memory> {
+    let mut list = List::new(alloc);
+    for (predicate, args) in table {
+        list.push(fact(alloc, predicate, args)?)?;
+    }
+    Ok(list)
+}
+
+fn gripper_actions(alloc: Global) -> Result<List<Action>, Memory> {
+    let mut actions = List::new(alloc);
+    actions.push(movement(alloc)?)?;
+    actions.push(picking(alloc)?)?;
+    actions.push(dropping(alloc)?)?;
+    Ok(actions)
+}
+
+// Parts with these names and nothing else.
+fn blank(alloc: Global, domain: Name, name: Name) -> Parts {
+    Parts {
+        domain,
+        name,
         types: List::new(alloc),
         constants: 0,
-        objects: typed(alloc, &["rooma", "roomb", "ball1"], "object")?,
-        predicates: predicates(alloc, &declared)?,
+        objects: List::new(alloc),
+        predicates: List::new(alloc),
         functions: List::new(alloc),
-        atoms: list(alloc, atoms)?,
+        atoms: List::new(alloc),
         numbers: List::new(alloc),
         values: List::new(alloc),
-        actions: list(alloc, actions)?,
-        goal: atom(alloc, "at", &["ball1", "roomb"])?,
+        actions: List::new(alloc),
+        goal: Formula::And(List::new(alloc)),
         metric: None,
         constraints: List::new(alloc),
-    }))
+    }
+}
+
+fn gripper(alloc: Global) -> Result<Problem, Memory> {
+    let domain = name(alloc, "gripper")?;
+    let mut parts = blank(alloc, domain, name(alloc, "two-rooms")?);
+    parts.objects = typed(alloc, &["rooma", "roomb", "ball1"], "object")?;
+    parts.predicates = predicates(alloc, &DECLARED)?;
+    parts.atoms = facts(alloc, &ATOMS)?;
+    parts.actions = gripper_actions(alloc)?;
+    parts.goal = atom(alloc, "at", &["ball1", "roomb"])?;
+    Ok(Problem::new(parts))
 }
 
 // The text with its pieces joined.
@@ -257,14 +286,15 @@ fn gripper_is_written(rt: HostRuntime) {
     assert_eq!(rt; pieces.piece(), b"(define (problem two-rooms)\n".as_slice());
 }
 
-// A row whose effect comes for each place.
+// An effect that comes for each place.
+fn forgotten(alloc: Global) -> Result<Row, Memory> {
+    let mut row = delete(alloc, "loc-val", &["?t", "?v"])?;
+    row.vars = typed(alloc, &["v"], "place")?;
+    Ok(row)
+}
+
 fn forgetting(alloc: Global) -> Result<Action, Memory> {
-    let effect = Effect::Delete(name(alloc, "loc-val")?, terms(alloc, &["?t", "?v"])?);
-    let row = Row {
-        vars: typed(alloc, &["v"], "place")?,
-        when: Formula::And(List::new(alloc)),
-        effect,
-    };
+    let row = forgotten(alloc)?;
     Ok(Action {
         name: name(alloc, "lift")?,
         params: typed(alloc, &["t"], "truck")?,

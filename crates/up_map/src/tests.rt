@@ -1,7 +1,7 @@
 use crate::steps::put_entry;
 use crate::{Map, map_pieces, write_map};
 use std::alloc::Global;
-use up_compiler::{Chain, CompilerId, Entry, Item, Target, identity};
+use up_compiler::{Back, Chain, CompilerId, Entry, Item, Target, identity};
 use up_line::Line;
 use up_store::Pieces;
 use up_text::{List, Memory, Name};
@@ -43,15 +43,19 @@ fn action(alloc: Global, text: &str) -> Result<Action, Memory> {
     })
 }
 
-fn problem(alloc: Global) -> Result<Problem, Memory> {
-    let actions = [
-        action(alloc, "move")?,
-        action(alloc, "pick")?,
-        action(alloc, "drop")?,
-    ];
-    Ok(Problem::new(Parts {
-        domain: name(alloc, "gripper")?,
-        name: name(alloc, "two-rooms")?,
+fn actions(alloc: Global) -> Result<List<Action>, Memory> {
+    let mut actions = List::new(alloc);
+    for text in ["move", "pick", "drop"] {
+        actions.push(action(alloc, text)?)?;
+    }
+    Ok(actions)
+}
+
+// A problem that has nothing but actions.
+fn problem_of(alloc: Global, domain: Name, name: Name, actions: List<Action>) -> Problem {
+    Problem::new(Parts {
+        domain,
+        name,
         types: List::new(alloc),
         constants: 0,
         objects: List::new(alloc),
@@ -60,19 +64,31 @@ fn problem(alloc: Global) -> Result<Problem, Memory> {
         atoms: List::new(alloc),
         numbers: List::new(alloc),
         values: List::new(alloc),
-        actions: list(alloc, actions)?,
+        actions,
         goal: Formula::And(List::new(alloc)),
         metric: None,
         constraints: List::new(alloc),
-    }))
+    })
+}
+
+fn problem(alloc: Global) -> Result<Problem, Memory> {
+    let domain = name(alloc, "gripper")?;
+    let title = name(alloc, "two-rooms")?;
+    Ok(problem_of(alloc, domain, title, actions(alloc)?))
+}
+
+fn back(alloc: Global) -> Result<Back, Memory> {
+    let problem = problem(alloc)?;
+    identity(alloc, &problem)
 }
 
 fn map(alloc: Global) -> Result<Map, Memory> {
+    let back = back(alloc)?;
     Ok(Map {
         stages: Chain {
             stages: list(alloc, [CompilerId::Overlaps, CompilerId::Negations])?,
         },
-        back: identity(alloc, &problem(alloc)?)?,
+        back,
     })
 }
 
