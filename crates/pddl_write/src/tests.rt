@@ -1,15 +1,11 @@
-use crate::effect::put_action;
 use crate::number::put_number;
 use crate::{domain_pieces, problem_pieces, write_domain, write_problem};
 use std::alloc::Global;
-use std::process::Abort;
 use up_frac::Frac;
 use up_line::Line;
 use up_store::Pieces;
-use up_text::{Box, List, Memory, Name};
-use up_tree::{
-    Action, Change, Effect, Expr, Fact, Formula, Parts, Predicate, Problem, Row, Term, Typed,
-};
+use up_text::{List, Memory, Name};
+use up_tree::{Action, Effect, Fact, Formula, Parts, Predicate, Problem, Row, Term, Typed};
 
 const DOMAIN: [&str; 14] = [
     "(define (domain gripper)\n",
@@ -284,96 +280,6 @@ fn gripper_is_written(rt: HostRuntime) {
     let mut pieces = problem_pieces(alloc, &p).expect(&rt, "pieces");
     assert!(rt; pieces.advance());
     assert_eq!(rt; pieces.piece(), b"(define (problem two-rooms)\n".as_slice());
-}
-
-// An effect that comes for each place.
-fn forgotten(alloc: Global) -> Result<Row, Memory> {
-    let mut row = delete(alloc, "loc-val", &["?t", "?v"])?;
-    row.vars = typed(alloc, &["v"], "place")?;
-    Ok(row)
-}
-
-fn forgetting(alloc: Global) -> Result<Action, Memory> {
-    let row = forgotten(alloc)?;
-    Ok(Action {
-        name: name(alloc, "lift")?,
-        params: typed(alloc, &["t"], "truck")?,
-        pre: Formula::And(List::new(alloc)),
-        rows: list(alloc, [row])?,
-    })
-}
-
-// A row with a condition.
-fn remembering(alloc: Global) -> Result<Action, Memory> {
-    let no_q = Formula::Not(Box::new(alloc, atom(alloc, "q", &[])?)?);
-    let or = Formula::Or(list(alloc, [no_q, atom(alloc, "was", &[])?])?);
-    let row = Row {
-        vars: List::new(alloc),
-        when: atom(alloc, "r", &[])?,
-        effect: Effect::Add(name(alloc, "was")?, List::new(alloc)),
-    };
-    Ok(Action {
-        name: name(alloc, "a")?,
-        params: List::new(alloc),
-        pre: Formula::And(list(alloc, [atom(alloc, "p", &[])?, or])?),
-        rows: list(
-            alloc,
-            [add(alloc, "q", &[])?, delete(alloc, "p", &[])?, row],
-        )?,
-    })
-}
-
-// A number that rises.
-fn walking(alloc: Global) -> Result<Action, Memory> {
-    let time = Expr::Fluent(name(alloc, "time")?, terms(alloc, &["n1", "n2"])?);
-    let cost = name(alloc, "total-cost")?;
-    let rise = row(
-        alloc,
-        Effect::Number(Change::Increase, cost, List::new(alloc), time),
-    )?;
-    Ok(Action {
-        name: name(alloc, "walk-n1-n2")?,
-        params: List::new(alloc),
-        pre: atom(alloc, "at", &["n1"])?,
-        rows: list(
-            alloc,
-            [
-                delete(alloc, "at", &["n1"])?,
-                add(alloc, "at", &["n2"])?,
-                rise,
-            ],
-        )?,
-    })
-}
-
-fn assert_action(rt: &impl Abort, alloc: Global, action: Result<Action, Memory>, want: &str) {
-    let action = action.expect(rt, "an action");
-    let mut line = Line::with_room(alloc, 300).expect(rt, "room");
-    put_action(&mut line, true, &action);
-    assert_eq!(rt; line.bytes(), want.as_bytes());
-}
-
-#[test]
-fn actions(rt: HostRuntime) {
-    let alloc = rt.alloc();
-    assert_action(
-        &rt,
-        alloc,
-        forgetting(alloc),
-        "(:action lift :parameters (?t - truck) :precondition (and) :effect (and (forall (?v - place) (not (loc-val ?t ?v)))))\n",
-    );
-    assert_action(
-        &rt,
-        alloc,
-        remembering(alloc),
-        "(:action a :parameters () :precondition (and (p) (or (not (q)) (was))) :effect (and (q) (not (p)) (when (r) (was))))\n",
-    );
-    assert_action(
-        &rt,
-        alloc,
-        walking(alloc),
-        "(:action walk-n1-n2 :parameters () :precondition (at n1) :effect (and (not (at n1)) (at n2) (increase (total-cost) (time n1 n2))))\n",
-    );
 }
 
 #[test]
