@@ -1,4 +1,6 @@
-ghost use Rattle.std.specs.Prelude.{◌≡◌};
+ghost use Rattle.std.specs.Prelude.{◌≡◌, IfOk, IfErr, OnOk};
+ghost use Rattle.pddl_parse.specs.Texts.{domain, problem};
+ghost use Rattle.up_check.specs.Passes.{FirstFault, HasForm, HaveForms, IsForm, IsOfFile, StopsInDomain, StopsInProblem};
 ghost use Rattle.up_check.specs.Refusals.{bare_refused, bytes_refused, refused, shape_refused};
 
 use crate::domain::{Domain, checked_domain};
@@ -15,25 +17,87 @@ use up_tree::Problem;
 ///
 /// Errors: `Refused` with the first fault, of the domain text before the problem text and of its bytes and brackets before its
 /// forms before its names; `Memory`.
-pub fn read_problem(alloc: Global, domain: &[u8], problem: &[u8]) -> Result<Problem, ReadError> {
+#[tactic(auto, using(crate::proofs::Passes::passes))]
+pub fn read_problem(alloc: Global, domain: &[u8], problem: &[u8]) -> Result<Problem, ReadError>
+    ensures forms { OnOk result (HaveForms domain.now problem.now) }
+    ensures refused { IfErr result (λ refusal. ¬ (refusal ≡ ReadError.Memory) → FirstFault domain.now problem.now refusal) }
+{
     let domain = domain_of(alloc, domain)?;
-    let form = problem_form_of(alloc, problem)?;
-    checked_problem(alloc, domain, &form).map_err(|fault| refused(File::Problem, fault))
+    problem_of(alloc, domain, problem)
 }
 
-fn domain_of(alloc: Global, text: &[u8]) -> Result<Domain, ReadError> {
+// The domain of a text.
+#[tactic(auto, using(crate::proofs::Passes::passes))]
+fn domain_of(alloc: Global, text: &[u8]) -> Result<Domain, ReadError>
+    ensures form { OnOk result (IsForm domain text.now) }
+    ensures refused { IfErr result (λ refusal. ¬ (refusal ≡ ReadError.Memory) → StopsInDomain text.now refusal) }
+{
     let form = domain_form_of(alloc, text)?;
-    checked_domain(alloc, &form).map_err(|fault| refused(File::Domain, fault))
+    named_domain(alloc, &form)
 }
 
-fn domain_form_of(alloc: Global, text: &[u8]) -> Result<DomainForm, ReadError> {
-    let trees = brackets(alloc, text).map_err(|fault| bytes_refused(File::Domain, fault))?;
-    domain_form(alloc, &trees).map_err(|fault| shape_refused(File::Domain, fault))
+// The problem of a text, whose domain was read.
+#[tactic(auto, using(crate::proofs::Passes::passes))]
+fn problem_of(alloc: Global, domain: Domain, text: &[u8]) -> Result<Problem, ReadError>
+    ensures form { OnOk result (IsForm problem text.now) }
+    ensures refused { IfErr result (λ refusal. ¬ (refusal ≡ ReadError.Memory) → StopsInProblem text.now refusal) }
+{
+    match problem_form_of(alloc, text) {
+        Ok(form) => named_problem(alloc, domain, &form),
+        Err(refusal) => Err(refusal),
+    }
 }
 
-fn problem_form_of(alloc: Global, text: &[u8]) -> Result<ProblemForm, ReadError> {
-    let trees = brackets(alloc, text).map_err(|fault| bytes_refused(File::Problem, fault))?;
-    problem_form(alloc, &trees).map_err(|fault| shape_refused(File::Problem, fault))
+#[tactic(auto, using(crate::proofs::Passes::passes))]
+fn named_domain(alloc: Global, form: &DomainForm) -> Result<Domain, ReadError>
+    ensures { IfErr result (λ refusal. ¬ (refusal ≡ ReadError.Memory) → IsOfFile File.Domain refusal) }
+{
+    match checked_domain(alloc, form) {
+        Ok(domain) => Ok(domain),
+        Err(fault) => Err(refused(File::Domain, fault)),
+    }
+}
+
+#[tactic(auto, using(crate::proofs::Passes::passes))]
+fn named_problem(alloc: Global, domain: Domain, form: &ProblemForm) -> Result<Problem, ReadError>
+    ensures { IfErr result (λ refusal. ¬ (refusal ≡ ReadError.Memory) → IsOfFile File.Problem refusal) }
+{
+    match checked_problem(alloc, domain, form) {
+        Ok(problem) => Ok(problem),
+        Err(fault) => Err(refused(File::Problem, fault)),
+    }
+}
+
+// The form of a domain text.
+#[tactic(auto, using(crate::proofs::Passes::passes))]
+fn domain_form_of(alloc: Global, text: &[u8]) -> Result<DomainForm, ReadError>
+    ensures form { IfOk result (HasForm domain text.now) }
+    ensures refused { IfErr result (λ refusal. ¬ (refusal ≡ ReadError.Memory) → StopsInDomain text.now refusal) }
+{
+    let trees = match brackets(alloc, text) {
+        Ok(trees) => trees,
+        Err(fault) => return Err(bytes_refused(File::Domain, fault)),
+    };
+    match domain_form(alloc, &trees) {
+        Ok(form) => Ok(form),
+        Err(fault) => Err(shape_refused(File::Domain, fault)),
+    }
+}
+
+// The form of a problem text.
+#[tactic(auto, using(crate::proofs::Passes::passes))]
+fn problem_form_of(alloc: Global, text: &[u8]) -> Result<ProblemForm, ReadError>
+    ensures form { IfOk result (HasForm problem text.now) }
+    ensures refused { IfErr result (λ refusal. ¬ (refusal ≡ ReadError.Memory) → StopsInProblem text.now refusal) }
+{
+    let trees = match brackets(alloc, text) {
+        Ok(trees) => trees,
+        Err(fault) => return Err(bytes_refused(File::Problem, fault)),
+    };
+    match problem_form(alloc, &trees) {
+        Ok(form) => Ok(form),
+        Err(fault) => Err(shape_refused(File::Problem, fault)),
+    }
 }
 
 fn bare_refused(file: File, place: Place, reason: Reason) -> ReadError

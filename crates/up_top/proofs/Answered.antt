@@ -1,7 +1,7 @@
 -- The put of an answer's text.
 use Rattle.std.proofs.Common.{◌≡◌, ℕ, Bool, true, false, List, Option, None, Some, Result, Ok, Err, refl}
-use Rattle.std.specs.Prelude.{OnOk, OnErr, is_ok}
-use Rattle.up_store.specs.Outside.{Rose, written_with, GotPrefix}
+use Rattle.std.specs.Prelude.{IfSome, OnOk, OnErr, is_ok}
+use Rattle.up_store.specs.Outside.{Files, Rose, written_with, GotPrefix}
 use Rattle.up_store.specs.declared.sink.SinkFailed.{SinkFailed}
 use Rattle.up_check.specs.declared.reason.File.TheVariants as file
 use Rattle.up_pipeline.specs.declared.engine.EngineError.TheVariants as engine
@@ -10,52 +10,98 @@ use Rattle.up_top.specs.declared.command.Command.TheVariants as command
 use Rattle.up_top.specs.declared.answer.Stop.TheVariants as stop
 use Rattle.up_top.specs.declared.answer.Answer.{Answer}
 use Rattle.up_top.specs.declared.answer.Answer.TheVariants as answer
+use Rattle.up_top.specs.declared.status.Status.{Status}
+use Rattle.up_top.specs.declared.status.Status.TheVariants.{Done, Usage, Memory, Missing, ReadFault, WriteFault, DomainRefused, ProblemRefused, EngineRefused, NoPipeline, TooMany, MapRefused, PlanRefused, PlanUnfit, PlanInvalid, NumberTooLarge, InputTooLarge}
 use Rattle.up_top.proofs.Ends.{leaves_ended}
 use Rattle.up_top.specs.Words.{command_of}
+use Rattle.up_top.specs.Cause.{HasOutputs, IsKind, IsPipeline}
 use Rattle.up_top.specs.Answers.{status_of, answer_text}
-use Rattle.up_top.specs.Says.{IsOf, IsAnswer, Puts, PutsAnswer, ended}
+use Rattle.up_top.specs.Inputs.{Tells}
+use Rattle.up_top.specs.Run.{Compiles, CompilesAt, CompilesDone}
+use Rattle.up_top.specs.Says.{IsOf, Puts, PutsAnswer, ended}
 
-is_done : (command : Option Command) (words : List (List ℕ)) (answer : Answer) (ok : Bool) → IsOf command answer
-    → IsAnswer command words (ended (status_of answer) ok) (answer_text words answer)
-is_done None words (answer.Features kind) ok of = absurd of
-is_done (Some command.Kind) words (answer.Features kind) true of = record { bits = kind.0; is = refl }
-is_done (Some command.Kind) words (answer.Features kind) false of = record { bits = kind.0; is = refl }
-is_done (Some command.Pipeline) words (answer.Features kind) ok of = absurd of
-is_done (Some (command.Compile limit)) words (answer.Features kind) ok of = absurd of
-is_done None words (answer.Chain chain) ok of = absurd of
-is_done (Some command.Kind) words (answer.Chain chain) ok of = absurd of
-is_done (Some command.Pipeline) words (answer.Chain chain) true of = record { stages = chain.stages; is = refl }
-is_done (Some command.Pipeline) words (answer.Chain chain) false of = record { stages = chain.stages; is = refl }
-is_done (Some (command.Compile limit)) words (answer.Chain chain) ok of = absurd of
-is_done None words (answer.Actions count) ok of = absurd of
-is_done (Some command.Kind) words (answer.Actions count) ok of = absurd of
-is_done (Some command.Pipeline) words (answer.Actions count) ok of = absurd of
-is_done (Some (command.Compile limit)) words (answer.Actions count) true of = record { count = count; is = refl }
-is_done (Some (command.Compile limit)) words (answer.Actions count) false of = record { count = count; is = refl }
-is_done command words (answer.Refused file.Domain place reason name) ok of = record { place = place; reason = reason; name = name; is = refl }
-is_done command words (answer.Refused file.Problem place reason name) ok of = record { place = place; reason = reason; name = name; is = refl }
-is_done command words (answer.Unread engine.Memory) ok of = refl
-is_done command words (answer.Unread engine.Toml) ok of = record { error = engine.Toml; refused = refl; is = refl }
-is_done command words (answer.Unread (engine.UnknownKey word)) ok of = record { error = (engine.UnknownKey word); refused = refl; is = refl }
-is_done command words (answer.Unread (engine.NoKey word)) ok of = record { error = (engine.NoKey word); refused = refl; is = refl }
-is_done command words (answer.Unread (engine.WrongType word)) ok of = record { error = (engine.WrongType word); refused = refl; is = refl }
-is_done command words (answer.Unread (engine.UnknownFeature word)) ok of = record { error = (engine.UnknownFeature word); refused = refl; is = refl }
-is_done command words (answer.Stopped stop.Usage) ok of = refl
-is_done command words (answer.Stopped stop.Memory) ok of = refl
-is_done command words (answer.Stopped (stop.Missing at)) ok of = refl
-is_done command words (answer.Stopped (stop.ReadFault at)) ok of = refl
-is_done command words (answer.Stopped (stop.WriteFault at)) ok of = refl
-is_done command words (answer.Stopped stop.NoPipeline) ok of = refl
-is_done command words (answer.Stopped (stop.InputTooLarge at)) ok of = refl
+not_done : (status : Status) → ¬ (ended status false ≡ Done)
+not_done Done = λ same. cc
+not_done Usage = λ same. cc
+not_done Memory = λ same. cc
+not_done (Missing at) = λ same. cc
+not_done (ReadFault at) = λ same. cc
+not_done (WriteFault at) = λ same. cc
+not_done DomainRefused = λ same. cc
+not_done ProblemRefused = λ same. cc
+not_done EngineRefused = λ same. cc
+not_done NoPipeline = λ same. cc
+not_done TooMany = λ same. cc
+not_done MapRefused = λ same. cc
+not_done PlanRefused = λ same. cc
+not_done PlanUnfit = λ same. cc
+not_done PlanInvalid = λ same. cc
+not_done NumberTooLarge = λ same. cc
+not_done (InputTooLarge at) = λ same. cc
 
-pub answered : (words : List (List ℕ)) (answer : Answer) (put : Result Unit SinkFailed) (before now : ℕ) (old new : Option (List ℕ)) → IsOf (command_of words) answer
+not_lost : (status : Status) → ¬ (status ≡ WriteFault None) → ¬ (ended status true ≡ WriteFault None)
+not_lost Done other = λ same. cc
+not_lost Usage other = λ same. cc
+not_lost Memory other = λ same. cc
+not_lost (Missing at) other = λ same. cc
+not_lost (ReadFault at) other = λ same. cc
+not_lost (WriteFault at) other = other
+not_lost DomainRefused other = λ same. cc
+not_lost ProblemRefused other = λ same. cc
+not_lost EngineRefused other = λ same. cc
+not_lost NoPipeline other = λ same. cc
+not_lost TooMany other = λ same. cc
+not_lost MapRefused other = λ same. cc
+not_lost PlanRefused other = λ same. cc
+not_lost PlanUnfit other = λ same. cc
+not_lost PlanInvalid other = λ same. cc
+not_lost NumberTooLarge other = λ same. cc
+not_lost (InputTooLarge at) other = λ same. cc
+
+pub answered : (words : List (List ℕ)) (held : Option Files) (answer : Answer) (put : Result Unit SinkFailed) (before now : ℕ) (old new : Option (List ℕ)) → IsOf (command_of words) answer
+    → IfSome held (Tells words answer)
+    → ¬ (status_of answer ≡ WriteFault None)
     → OnOk put (new ≡ written_with (answer_text words answer) old)
     → OnErr put (GotPrefix (answer_text words answer) old new)
     → OnErr put (Rose before now)
-    → PutsAnswer words (ended (status_of answer) (is_ok put)) before now old new
-answered words answer (Ok u) before now old new of whole prefix rose =
-    record { text = answer_text words answer; is = is_done (command_of words) words answer true of; put = Puts.whole whole }
-answered words answer (Err e) before now old new of whole prefix rose =
-    record { text = answer_text words answer; is = is_done (command_of words) words answer false of; put = Puts.prefix rose prefix }
+    → PutsAnswer words held (ended (status_of answer) (is_ok put)) before now old new
+answered words held answer (Ok u) before now old new of tells other whole prefix rose =
+    record { answer = answer; put_whole = true; of = of; is = refl; tells = tells; put = Puts.whole (not_lost (status_of answer) other) whole }
+answered words held answer (Err e) before now old new of tells other whole prefix rose =
+    record { answer = answer; put_whole = false; of = of; is = refl; tells = tells; put = Puts.prefix (not_done (status_of answer)) rose prefix }
 
-pub ruleset answers = (answered, leaves_ended)
+-- an answer of `compile` that is done tells how many actions were compiled
+compiled : (words : List (List ℕ)) (command : Option Command) (answer : Answer) (put : Result Unit SinkFailed) (held kept : Option Files) (old new : Option (List ℕ))
+    → IsOf command answer → CompilesAt words held kept answer
+    → OnOk put (new ≡ written_with (answer_text words answer) old)
+    → ended (status_of answer) (is_ok put) ≡ Done → HasOutputs command → CompilesDone words held kept old new
+compiled words None answer put held kept old new of compiles whole done has = absurd has
+compiled words (Some command.Kind) answer put held kept old new of compiles whole done has = absurd has
+compiled words (Some command.Pipeline) answer put held kept old new of compiles whole done has = absurd has
+compiled words (Some (command.Compile limit)) (answer.Features kind) put held kept old new of compiles whole done has = absurd of
+compiled words (Some (command.Compile limit)) (answer.Chain chain) put held kept old new of compiles whole done has = absurd of
+compiled words (Some (command.Compile limit)) (answer.Actions count) (Ok u) held kept old new of compiles whole done has = record { count = count; compiles = compiles; put = whole }
+compiled words (Some (command.Compile limit)) (answer.Actions count) (Err e) held kept old new of compiles whole done has = cc
+compiled words (Some (command.Compile limit)) (answer.Refused file.Domain place reason name) put held kept old new of compiles whole done has = cc
+compiled words (Some (command.Compile limit)) (answer.Refused file.Problem place reason name) put held kept old new of compiles whole done has = cc
+compiled words (Some (command.Compile limit)) (answer.Unread engine.Memory) put held kept old new of compiles whole done has = cc
+compiled words (Some (command.Compile limit)) (answer.Unread engine.Toml) put held kept old new of compiles whole done has = cc
+compiled words (Some (command.Compile limit)) (answer.Unread (engine.UnknownKey word)) put held kept old new of compiles whole done has = cc
+compiled words (Some (command.Compile limit)) (answer.Unread (engine.NoKey word)) put held kept old new of compiles whole done has = cc
+compiled words (Some (command.Compile limit)) (answer.Unread (engine.WrongType word)) put held kept old new of compiles whole done has = cc
+compiled words (Some (command.Compile limit)) (answer.Unread (engine.UnknownFeature word)) put held kept old new of compiles whole done has = cc
+compiled words (Some (command.Compile limit)) (answer.Stopped stop.Usage) put held kept old new of compiles whole done has = cc
+compiled words (Some (command.Compile limit)) (answer.Stopped stop.Memory) put held kept old new of compiles whole done has = cc
+compiled words (Some (command.Compile limit)) (answer.Stopped (stop.Missing at)) put held kept old new of compiles whole done has = cc
+compiled words (Some (command.Compile limit)) (answer.Stopped (stop.ReadFault at)) put held kept old new of compiles whole done has = cc
+compiled words (Some (command.Compile limit)) (answer.Stopped (stop.WriteFault at)) put held kept old new of compiles whole done has = cc
+compiled words (Some (command.Compile limit)) (answer.Stopped stop.NoPipeline) put held kept old new of compiles whole done has = cc
+compiled words (Some (command.Compile limit)) (answer.Stopped (stop.InputTooLarge at)) put held kept old new of compiles whole done has = cc
+
+pub compiles_done : (words : List (List ℕ)) (answer : Answer) (put : Result Unit SinkFailed) (held kept : Option Files) (old new : Option (List ℕ))
+    → IsOf (command_of words) answer → CompilesAt words held kept answer
+    → OnOk put (new ≡ written_with (answer_text words answer) old)
+    → ended (status_of answer) (is_ok put) ≡ Done → HasOutputs (command_of words) → CompilesDone words held kept old new
+compiles_done words answer put held kept old new of compiles whole done has = compiled words (command_of words) answer put held kept old new of compiles whole done has
+
+pub ruleset answers = (answered, leaves_ended, compiles_done)

@@ -409,12 +409,6 @@ write_first words (stop.WriteFault at) end (Some files) kind same all = rw same 
 write_first words stop.NoPipeline end (Some files) kind same all = absurd kind
 write_first words (stop.InputTooLarge at) end (Some files) kind same all = absurd kind
 
--- a refusal that is handed on
-pub hands_on : {T : Type 0} (r : Result T Answer) (given : Answer) → IsErrAnd r (λ e. e ≡ given) → IsRefusal (status_of given)
-    → IfErr r (λ answer. IsRefusal (status_of answer))
-hands_on (Ok value) given same kind = tt
-hands_on (Err e) given same kind = rw same kind
-
 pub outputs_placed : (command : Option Command) (status : Status) → IsRefusal status → HasOutputs command → IsPlaced command status
 outputs_placed None status kind has = absurd has
 outputs_placed (Some command.Kind) status kind has = absurd has
@@ -470,7 +464,7 @@ written_read faults misses larges words old new (InputTooLarge at) kind = absurd
 pub leaves_ended : (words : List (List ℕ)) (old new : Option Files) (status : Status) (ok : Bool) → Leaves words old new status → Leaves words old new (ended status ok)
 leaves_ended words old new Done true left = left
 leaves_ended words old new Done false left =
-    elim left [ untouched keeps same ↦ Leaves.untouched keeps same | wrote outputs has are held ↦ Leaves.wrote outputs has are held ]
+    elim left [ untouched keeps same ↦ Leaves.untouched keeps same | wrote outputs problem has are held ↦ Leaves.wrote outputs problem has are held ]
 leaves_ended words old new Usage ok left = left
 leaves_ended words old new Memory ok left = left
 leaves_ended words old new (Missing at) ok left = left

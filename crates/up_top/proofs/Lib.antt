@@ -2,5 +2,6 @@ pub mod Answered
 pub mod Chosen
 pub mod Complete
 pub mod Ends
+pub mod Inputs
 pub mod Outputs
 pub mod Puts

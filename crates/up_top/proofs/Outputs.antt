@@ -1,6 +1,6 @@
 -- Writes of outputs that follow one another.
 use Rattle.std.proofs.Common.{◌≡◌, inl, inr, ℕ, List, [], ◌∷◌, Option, None, Some, Result, Ok, Err, refl}
-use Rattle.std.specs.Prelude.{IsErrAnd}
+use Rattle.std.specs.Prelude.{IfSome, IsErrAnd, length}
 use Rattle.up_store.specs.Outside.{Files, held_with}
 use Rattle.up_top.specs.declared.answer.Stop.{Stop}
 use Rattle.up_top.specs.declared.answer.Stop.TheVariants as stop
@@ -11,8 +11,8 @@ use Rattle.up_tree.specs.declared.problem.Parts.{Parts}
 use Rattle.up_map.specs.declared.map.Map.{Map}
 use Rattle.up_map.specs.Texts.{map_text}
 use Rattle.pddl_write.specs.Files.{domain_text, problem_text}
-use Rattle.up_top.specs.Run.{Output, SomeWritten, HeldAfter, Leaves, IsWhole, outputs_of, write_status}
-use Rattle.up_top.specs.Cause.{IsWriteStatus, HasOutputs}
+use Rattle.up_top.specs.Run.{Output, SomeWritten, HeldAfter, Leaves, IsWhole, Compiles, outputs_of, held_after, write_status}
+use Rattle.up_top.specs.Cause.{IsWriteStatus, HasOutputs, IsHeld}
 use Rattle.up_top.specs.Answers.{stop_status}
 
 none_written : (words : List (List ℕ)) (outputs : List Output) (old new : Option Files) → new ≡ old → SomeWritten words outputs old new
@@ -66,13 +66,28 @@ goes_on words output outputs old mid new NumberTooLarge first last done held kin
 
 -- what comes of the writes of a problem and its map
 pub wrote : (words : List (List ℕ)) (old new : Option Files) (status : Status) (problem : Parts) (map : Map) (domain_bytes problem_bytes map_bytes : List ℕ)
-    → HasOutputs (command_of words) → IsWhole problem map
+    → HasOutputs (command_of words) → (engine : List ℕ) → IfSome old (IsHeld words 3 engine) → IsWhole engine problem map
     → domain_bytes ≡ domain_text problem → problem_bytes ≡ problem_text problem → map_bytes ≡ map_text map
     → HeldAfter words (outputs_of domain_bytes problem_bytes map_bytes) old new status
     → Leaves words old new status
-wrote words old new status problem map domain_bytes problem_bytes map_bytes has whole same_domain same_problem same_map held =
-    Leaves.wrote (outputs_of (domain_text problem) (problem_text problem) (map_text map)) has
-    (record { problem = problem; map = map; whole = whole; texts = refl })
+wrote words old new status problem map domain_bytes problem_bytes map_bytes has engine holds whole same_domain same_problem same_map held =
+    Leaves.wrote (outputs_of (domain_text problem) (problem_text problem) (map_text map)) problem has
+    (record { engine = engine; holds = holds; map = map; whole = whole; texts = refl })
     (rw (← same_domain) (rw (← same_problem) (rw (← same_map) held)))
+
+-- the writes of a problem and its map that are done
+pub compiles : (words : List (List ℕ)) (old new : Option Files) (problem : Parts) (map : Map) (domain_bytes problem_bytes map_bytes : List ℕ)
+    → (engine : List ℕ) → IfSome old (IsHeld words 3 engine) → IsWhole engine problem map
+    → domain_bytes ≡ domain_text problem → problem_bytes ≡ problem_text problem → map_bytes ≡ map_text map
+    → new ≡ held_after words (outputs_of domain_bytes problem_bytes map_bytes) old
+    → Compiles words old new (length problem.actions)
+compiles words old new problem map domain_bytes problem_bytes map_bytes engine holds whole same_domain same_problem same_map held =
+    record {
+      problem = problem;
+      outputs = outputs_of (domain_text problem) (problem_text problem) (map_text map);
+      are = record { engine = engine; holds = holds; map = map; whole = whole; texts = refl };
+      held = rw (← same_domain) (rw (← same_problem) (rw (← same_map) held));
+      counted = refl;
+    }
 
 pub ruleset writes = (stops, goes_on)

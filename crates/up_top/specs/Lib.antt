@@ -1,6 +1,7 @@
 pub mod Answers
 pub mod Cause
 pub mod Code
+pub mod Inputs
 pub mod Run
 pub mod Says
 pub mod Words

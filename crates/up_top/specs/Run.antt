@@ -1,23 +1,21 @@
 -- What a run leaves in the store.
-use Rattle.std.specs.Prelude.{◌≡◌, ◌⊎◌, ◌<◌, ⊤, ℕ, length, List, [], ◌∷◌, Option, None, Some, Result, Ok, Err}
-use Rattle.up_store.specs.Outside.{Files, held_with, KeepsOrCuts}
-use Rattle.up_kind.specs.Carried.{carries}
-use Rattle.up_kind.specs.Features.{has}
-use Rattle.up_compiler.specs.declared.id.CompilerId.{CompilerId}
+use Rattle.std.specs.Prelude.{◌≡◌, ◌⊎◌, ◌<◌, ⊤, ℕ, length, List, [], ◌∷◌, Option, None, Some, IfSome, Result, Ok, Err}
+use Rattle.up_store.specs.Outside.{Files, held_with, written_with, KeepsOrCuts}
 use Rattle.up_compiler.specs.Identity.{identity_entries}
 use Rattle.up_tree.specs.declared.problem.Parts.{Parts}
 use Rattle.up_map.specs.declared.map.Map.{Map}
 use Rattle.up_map.specs.Texts.{map_text}
 use Rattle.pddl_write.specs.Files.{domain_text, problem_text}
-use Rattle.up_pipeline.specs.declared.engine.Engine.{Engine}
-use Rattle.up_pipeline.specs.Chains.{IsBest}
 use Rattle.up_top.specs.declared.command.Command.{Command}
+use Rattle.up_top.specs.declared.answer.Answer.{Answer}
+use Rattle.up_top.specs.declared.answer.Answer.TheVariants as answer
 use Rattle.up_top.specs.declared.answer.Stop.{Stop}
 use Rattle.up_top.specs.declared.status.Status.{Status}
 use Rattle.up_top.specs.declared.status.Status.TheVariants.{Done, Memory, Missing, ReadFault, WriteFault, InputTooLarge}
 use Rattle.up_top.specs.Words.{word_at, command_of}
-use Rattle.up_top.specs.Answers.{stop_status}
-use Rattle.up_top.specs.Cause.{HasOutputs}
+use Rattle.up_top.specs.Answers.{stop_status, actions_text}
+use Rattle.up_top.specs.Cause.{HasOutputs, IsHeld}
+use Rattle.up_top.specs.Inputs.{IsChosen}
 
 -- a text under the output name at a place of the words
 pub record Output : Type 0 where
@@ -57,21 +55,17 @@ HeldAfter words outputs old new (WriteFault None) = new ≡ held_after words out
 HeldAfter words outputs old new (WriteFault (Some at)) = FailsAt words outputs old new at
 HeldAfter words outputs old new status = new ≡ old
 
--- the chain that is chosen for a problem and some engine
-pub record IsChosen (problem : Parts) (stages : List CompilerId) : Type 0 where
-  pub engine : Engine
-  pub best : IsBest [] (has engine.features.0) (carries problem) stages
-
 -- a problem that no compiler changed, and its map
-pub record IsWhole (problem : Parts) (map : Map) : Type 0 where
-  pub chosen : IsChosen problem map.stages.stages
+pub record IsWhole (engine : List ℕ) (problem : Parts) (map : Map) : Type 0 where
+  pub chosen : IsChosen engine problem map.stages.stages
   pub kept : map.back ≡ identity_entries problem.actions
 
--- some problem and its map, as texts
-pub record AreOutputs (outputs : List Output) : Type 0 where
-  pub problem : Parts
+-- The texts of a problem and its map, whose chain is chosen for the held engine text.
+pub record AreOutputs (words : List (List ℕ)) (held : Option Files) (problem : Parts) (outputs : List Output) : Type 0 where
+  pub engine : List ℕ
+  pub holds : IfSome held (IsHeld words 3 engine)
   pub map : Map
-  pub whole : IsWhole problem map
+  pub whole : IsWhole engine problem map
   pub texts : outputs ≡ outputs_of (domain_text problem) (problem_text problem) (map_text map)
 
 -- the status of the writes
@@ -86,11 +80,30 @@ KeepsHeld command Done = ¬ HasOutputs command
 KeepsHeld command (WriteFault at) = ¬ HasOutputs command
 KeepsHeld command status = ⊤
 
--- what a run leaves: all as it was, or what comes of the writes of some problem and its map
+-- what a run leaves: all as it was, or what comes of the writes of a problem and its map
 pub data Leaves (words : List (List ℕ)) (old new : Option Files) (status : Status) : Type 0 where
   untouched : KeepsHeld (command_of words) status → new ≡ old → Leaves words old new status
-  wrote : (outputs : List Output) → HasOutputs (command_of words) → AreOutputs outputs
+  wrote : (outputs : List Output) (problem : Parts) → HasOutputs (command_of words) → AreOutputs words old problem outputs
       → HeldAfter words outputs old new status → Leaves words old new status
+
+-- A compile that is done: the texts of one problem and its map are held, and this is the number of its actions.
+pub record Compiles (words : List (List ℕ)) (old new : Option Files) (count : ℕ) : Type 0 where
+  pub problem : Parts
+  pub outputs : List Output
+  pub are : AreOutputs words old problem outputs
+  pub held : new ≡ held_after words outputs old
+  pub counted : count ≡ length problem.actions
+
+-- the same of an answer that tells how many actions were compiled
+abbrev pub CompilesAt : List (List ℕ) → Option Files → Option Files → Answer → Type 0
+CompilesAt words old new (answer.Actions count) = Compiles words old new count
+CompilesAt words old new answer = ⊤
+
+-- What a compile that is done holds and puts.
+pub record CompilesDone (words : List (List ℕ)) (old new : Option Files) (before now : Option (List ℕ)) : Type 0 where
+  pub count : ℕ
+  pub compiles : Compiles words old new count
+  pub put : now ≡ written_with (actions_text count) before
 
 -- a name stands at each place that a status carries
 abbrev pub HasPlace : List (List ℕ) → Status → Type 0

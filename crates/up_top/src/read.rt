@@ -2,6 +2,7 @@ ghost use Rattle.std.specs.Prelude.{◌≡◌, ◌≤◌, ◌<◌, length, IfOk,
 ghost use Rattle.up_store.specs.Outside.{NoneFalls};
 ghost use Rattle.up_top.specs.Answers.{stop_status};
 ghost use Rattle.up_top.specs.Cause.{ReadCause, StopsAt, IsReadStop, IsInputStop, IsHeld, AreReadable, FirstStop};
+ghost use Rattle.up_top.specs.Inputs.{AreInputs, AreSources};
 
 use crate::answer::Stop;
 use crate::words::name_at;
@@ -50,6 +51,7 @@ pub(crate) struct Inputs {
 }
 
 /// Reads the domain and the problem.
+#[tactic(auto, using(crate::proofs::Inputs::held))]
 pub(crate) fn read_sources<W: Store>(
     alloc: Global,
     words: &[Word],
@@ -57,7 +59,8 @@ pub(crate) fn read_sources<W: Store>(
 ) -> Result<Sources, Stop>
     requires { 3 ≤ length words.now }
     ensures kept { W.held store.new ≡ W.held store.old }
-    ensures texts { IfOk result (λ sources. IfSome (W.held store.old) (AreReadable words.now 3)) }
+    ensures readable { IfOk result (λ sources. IfSome (W.held store.old) (AreReadable words.now 3)) }
+    ensures texts { IfOk result (λ sources. IfSome (W.held store.old) (AreSources words.now sources.domain.items sources.problem.items)) }
     ensures stop { IfErr result (λ stop. IsInputStop 3 (stop_status stop)) }
     ensures cause { IfErr result (λ stop. ReadCause W.faults W.misses W.larges words.now store.old store.new (stop_status stop)) }
     ensures told { IfErr result (λ stop. IfSome (W.held store.old) (StopsAt words.now (stop_status stop))) }
@@ -73,6 +76,7 @@ pub(crate) fn read_sources<W: Store>(
 }
 
 /// Reads the domain, the problem and the engine.
+#[tactic(auto, using(crate::proofs::Inputs::held))]
 pub(crate) fn read_inputs<W: Store>(
     alloc: Global,
     words: &[Word],
@@ -80,7 +84,8 @@ pub(crate) fn read_inputs<W: Store>(
 ) -> Result<Inputs, Stop>
     requires { 4 ≤ length words.now }
     ensures kept { W.held store.new ≡ W.held store.old }
-    ensures texts { IfOk result (λ inputs. IfSome (W.held store.old) (AreReadable words.now 4)) }
+    ensures readable { IfOk result (λ inputs. IfSome (W.held store.old) (AreReadable words.now 4)) }
+    ensures texts { IfOk result (λ inputs. IfSome (W.held store.old) (AreInputs words.now inputs.sources.domain.items inputs.sources.problem.items inputs.engine.items)) }
     ensures engine { IfOk result (λ inputs. IfSome (W.held store.old) (IsHeld words.now 3 inputs.engine.items)) }
     ensures stop { IfErr result (λ stop. IsInputStop 4 (stop_status stop)) }
     ensures cause { IfErr result (λ stop. ReadCause W.faults W.misses W.larges words.now store.old store.new (stop_status stop)) }

@@ -1,8 +1,9 @@
-ghost use Rattle.std.specs.Prelude.{◌≡◌, IfOk, IfErr};
-ghost use Rattle.up_kind.specs.Features.{has};
+ghost use Rattle.std.specs.Prelude.{◌≡◌, IfOk, IfErr, OnOk};
+ghost use Rattle.up_check.specs.Passes.{HaveForms};
 ghost use Rattle.up_top.specs.Answers.{status_of};
 ghost use Rattle.up_top.specs.Cause.{IsReadRefusal, IsRefusal};
-ghost use Rattle.up_top.specs.Run.{IsChosen, IsWhole};
+ghost use Rattle.up_top.specs.Inputs.{IsChosen, StopsBefore, StopsChoice, StopsRead};
+ghost use Rattle.up_top.specs.Run.{IsWhole};
 
 use crate::answer::{Answer, Stop};
 use crate::read::{Inputs, Sources};
@@ -16,7 +17,9 @@ use up_tree::Problem;
 
 /// The problem that the sources say.
 pub(crate) fn problem_of(alloc: Global, sources: &Sources) -> Result<Problem, Answer>
-    ensures { IfErr result (λ answer. IsReadRefusal (status_of answer)) }
+    ensures forms { OnOk result (HaveForms sources.now.domain.items sources.now.problem.items) }
+    ensures stops { IfErr result (StopsRead sources.now.domain.items sources.now.problem.items) }
+    ensures refused { IfErr result (λ answer. IsReadRefusal (status_of answer)) }
 {
     match read_problem(alloc, &sources.domain, &sources.problem) {
         Ok(problem) => Ok(problem),
@@ -38,9 +41,10 @@ pub(crate) fn problem_of(alloc: Global, sources: &Sources) -> Result<Problem, An
 }
 
 /// The chosen chain for a problem and an engine text.
-#[tactic(auto, using(crate::proofs::Chosen::chosen))]
+#[tactic(auto, using(crate::proofs::Chosen::chosen_or_not))]
 pub(crate) fn chain_of(alloc: Global, problem: &Problem, engine: &[u8]) -> Result<Chain, Answer>
-    ensures chosen { IfOk result (λ chain. IsChosen problem.now chain.stages) }
+    ensures chosen { IfOk result (λ chain. IsChosen engine.now problem.now chain.stages) }
+    ensures stops { IfErr result (StopsChoice engine.now problem.now) }
     ensures refused { IfErr result (λ answer. IsRefusal (status_of answer)) }
 {
     let engine = match Engine::read(alloc, engine) {
@@ -56,7 +60,8 @@ pub(crate) fn chain_of(alloc: Global, problem: &Problem, engine: &[u8]) -> Resul
 
 // The map of a problem that no compiler changed.
 fn map_of(alloc: Global, problem: &Problem, engine: &[u8]) -> Result<Map, Answer>
-    ensures whole { IfOk result (λ map. IsWhole problem.now map) }
+    ensures whole { IfOk result (λ map. IsWhole engine.now problem.now map) }
+    ensures stops { IfErr result (StopsChoice engine.now problem.now) }
     ensures refused { IfErr result (λ answer. IsRefusal (status_of answer)) }
 {
     let stages = chain_of(alloc, problem, engine)?;
@@ -73,12 +78,24 @@ pub(crate) struct Whole {
     pub map: Map,
 }
 
+// A problem and the map for an engine text.
+fn whole_with(alloc: Global, problem: Problem, engine: &[u8]) -> Result<Whole, Answer>
+    ensures whole { IfOk result (λ whole. IsWhole engine.now whole.problem whole.map) }
+    ensures stops { IfErr result (StopsChoice engine.now problem) }
+{
+    match map_of(alloc, &problem, engine) {
+        Ok(map) => Ok(Whole { problem, map }),
+        Err(answer) => Err(answer),
+    }
+}
+
 /// The compiled problem of the inputs.
+#[tactic(auto, using(crate::proofs::Inputs::stops))]
 pub(crate) fn whole_of(alloc: Global, inputs: &Inputs) -> Result<Whole, Answer>
-    ensures whole { IfOk result (λ whole. IsWhole whole.problem whole.map) }
-    ensures refused { IfErr result (λ answer. IsRefusal (status_of answer)) }
+    ensures forms { OnOk result (HaveForms inputs.now.sources.domain.items inputs.now.sources.problem.items) }
+    ensures whole { IfOk result (λ whole. IsWhole inputs.now.engine.items whole.problem whole.map) }
+    ensures stops { IfErr result (StopsBefore inputs.now.sources.domain.items inputs.now.sources.problem.items inputs.now.engine.items) }
 {
     let problem = problem_of(alloc, &inputs.sources)?;
-    let map = map_of(alloc, &problem, &inputs.engine)?;
-    Ok(Whole { problem, map })
+    whole_with(alloc, problem, &inputs.engine)
 }

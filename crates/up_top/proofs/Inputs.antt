@@ -1,0 +1,251 @@
+-- What is held, and what answers say of it, from what the calls answer.
+use Rattle.std.proofs.Common.{◌≡◌, ℕ, List, [], length, Option, None, Some, Result, Ok, Err, refl}
+use Rattle.std.specs.Prelude.{IfSome, IfErr, IfOk, OnOk}
+use Rattle.up_store.specs.Outside.{Files}
+use Rattle.up_kind.specs.declared.kind.Kind.{Kind}
+use Rattle.up_kind.specs.Carried.{carries}
+use Rattle.up_kind.specs.Features.{FeatureSet, has}
+use Rattle.up_compiler.specs.declared.id.CompilerId.{CompilerId}
+use Rattle.up_compiler.specs.declared.id.Chain.{Chain}
+use Rattle.up_tree.specs.declared.problem.Parts.{Parts}
+use Rattle.up_check.specs.Passes.{HaveForms}
+use Rattle.up_check.specs.declared.reason.File.TheVariants as file
+use Rattle.up_pipeline.specs.declared.engine.EngineError.TheVariants as unread
+use Rattle.up_top.specs.declared.command.Command.{Command}
+use Rattle.up_top.specs.declared.command.Command.TheVariants as command
+use Rattle.up_top.specs.declared.answer.Stop.{Stop}
+use Rattle.up_top.specs.declared.answer.Stop.TheVariants as stop
+use Rattle.up_top.specs.declared.answer.Answer.{Answer}
+use Rattle.up_top.specs.declared.answer.Answer.TheVariants as answer
+use Rattle.up_top.specs.Answers.{status_of, stop_status}
+use Rattle.up_top.specs.Words.{command_of}
+use Rattle.up_top.specs.Cause.{IsHeld, IsKind, HasEngine, HasOutputs, IsInputStop, IsWriteStatus, IsRefusal}
+use Rattle.up_top.specs.Inputs.{AreInputs, AreSources, HasChain, HasFeatures, IsChosen, Says, SaysOfHeld, StopsBefore, StopsChoice, StopsRead, Tells}
+use Rattle.up_top.specs.Run.{CompilesAt}
+
+-- ---- held texts
+
+sources_held : (words : List (List ℕ)) (domain problem : List ℕ) (held : Option Files) → IfSome held (IsHeld words 1 domain) → IfSome held (IsHeld words 2 problem)
+    → IfSome held (AreSources words domain problem)
+sources_held words domain problem None d p = tt
+sources_held words domain problem (Some files) d p = record { holds_domain = d; holds_problem = p }
+
+-- the same of texts that are read one after another
+pub sources_read : (words : List (List ℕ)) (domain problem : List ℕ) (old mid : Option Files) → mid ≡ old → IfSome old (IsHeld words 1 domain) → IfSome mid (IsHeld words 2 problem)
+    → IfSome old (AreSources words domain problem)
+sources_read words domain problem old mid same d p = sources_held words domain problem old d (rw same at p)
+
+pub inputs_held : (words : List (List ℕ)) (domain problem engine : List ℕ) (held : Option Files) → IfSome held (AreSources words domain problem) → IfSome held (IsHeld words 3 engine)
+    → IfSome held (AreInputs words domain problem engine)
+inputs_held words domain problem engine None s e = tt
+inputs_held words domain problem engine (Some files) s e = record { sources = s; holds_engine = λ _. e }
+
+pub ruleset held = (sources_read, inputs_held)
+
+-- ---- stops before the writes
+
+pub read_stops : (domain problem engine : List ℕ) (a : Answer) → StopsRead domain problem a → StopsBefore domain problem engine a
+read_stops domain problem engine (answer.Features kind) stops = absurd stops
+read_stops domain problem engine (answer.Chain chain) stops = absurd stops
+read_stops domain problem engine (answer.Actions count) stops = absurd stops
+read_stops domain problem engine (answer.Refused file place reason name) stops = stops
+read_stops domain problem engine (answer.Unread error) stops = absurd stops
+read_stops domain problem engine (answer.Stopped stop.Usage) stops = absurd stops
+read_stops domain problem engine (answer.Stopped stop.Memory) stops = tt
+read_stops domain problem engine (answer.Stopped (stop.Missing at)) stops = absurd stops
+read_stops domain problem engine (answer.Stopped (stop.ReadFault at)) stops = absurd stops
+read_stops domain problem engine (answer.Stopped (stop.WriteFault at)) stops = absurd stops
+read_stops domain problem engine (answer.Stopped stop.NoPipeline) stops = absurd stops
+read_stops domain problem engine (answer.Stopped (stop.InputTooLarge at)) stops = absurd stops
+
+choice_stops : (domain problem engine : List ℕ) (parts : Parts) (a : Answer) → HaveForms domain problem → StopsChoice engine parts a → StopsBefore domain problem engine a
+choice_stops domain problem engine parts (answer.Features kind) forms stops = absurd stops
+choice_stops domain problem engine parts (answer.Chain chain) forms stops = absurd stops
+choice_stops domain problem engine parts (answer.Actions count) forms stops = absurd stops
+choice_stops domain problem engine parts (answer.Refused file place reason name) forms stops = absurd stops
+choice_stops domain problem engine parts (answer.Unread unread.Memory) forms stops = tt
+choice_stops domain problem engine parts (answer.Unread unread.Toml) forms stops = record { forms = forms; says = stops }
+choice_stops domain problem engine parts (answer.Unread (unread.UnknownKey word)) forms stops = record { forms = forms; says = stops }
+choice_stops domain problem engine parts (answer.Unread (unread.NoKey word)) forms stops = record { forms = forms; says = stops }
+choice_stops domain problem engine parts (answer.Unread (unread.WrongType word)) forms stops = record { forms = forms; says = stops }
+choice_stops domain problem engine parts (answer.Unread (unread.UnknownFeature word)) forms stops = record { forms = forms; says = stops }
+choice_stops domain problem engine parts (answer.Stopped stop.Usage) forms stops = absurd stops
+choice_stops domain problem engine parts (answer.Stopped stop.Memory) forms stops = tt
+choice_stops domain problem engine parts (answer.Stopped (stop.Missing at)) forms stops = absurd stops
+choice_stops domain problem engine parts (answer.Stopped (stop.ReadFault at)) forms stops = absurd stops
+choice_stops domain problem engine parts (answer.Stopped (stop.WriteFault at)) forms stops = absurd stops
+choice_stops domain problem engine parts (answer.Stopped stop.NoPipeline) forms stops = record { forms = forms; parts = parts; none = stops }
+choice_stops domain problem engine parts (answer.Stopped (stop.InputTooLarge at)) forms stops = absurd stops
+
+-- ---- the same of results that are handed on
+
+pub chain_result : (domain problem engine : List ℕ) (parts : Parts) (result : Result Chain Answer) → HaveForms domain problem
+    → IfOk result (λ chain. IsChosen engine parts chain.stages) → IfOk result (λ chain. HasChain domain problem engine chain.stages)
+chain_result domain problem engine parts (Ok chain) forms chosen = record { forms = forms; parts = parts; chosen = chosen }
+chain_result domain problem engine parts (Err a) forms chosen = tt
+
+pub stops_result : {T : Type 0} (domain problem engine : List ℕ) (parts : Parts) (result : Result T Answer) → HaveForms domain problem
+    → IfErr result (StopsChoice engine parts) → IfErr result (StopsBefore domain problem engine)
+stops_result domain problem engine parts (Ok value) forms stops = tt
+stops_result domain problem engine parts (Err a) forms stops = choice_stops domain problem engine parts a forms stops
+
+pub forms_result : {T : Type 0} (domain problem : List ℕ) (result : Result T Answer) → HaveForms domain problem → OnOk result (HaveForms domain problem)
+forms_result domain problem (Ok value) forms = forms
+forms_result domain problem (Err a) forms = tt
+
+pub ruleset stops = (read_stops, chain_result, stops_result, forms_result)
+
+-- the status of a stop before the writes
+pub before_refusal : (domain problem engine : List ℕ) (a : Answer) → StopsBefore domain problem engine a → IsRefusal (status_of a)
+before_refusal domain problem engine (answer.Features kind) stops = absurd stops
+before_refusal domain problem engine (answer.Chain chain) stops = absurd stops
+before_refusal domain problem engine (answer.Actions count) stops = absurd stops
+before_refusal domain problem engine (answer.Refused file.Domain place reason name) stops = tt
+before_refusal domain problem engine (answer.Refused file.Problem place reason name) stops = tt
+before_refusal domain problem engine (answer.Unread unread.Memory) stops = tt
+before_refusal domain problem engine (answer.Unread unread.Toml) stops = tt
+before_refusal domain problem engine (answer.Unread (unread.UnknownKey word)) stops = tt
+before_refusal domain problem engine (answer.Unread (unread.NoKey word)) stops = tt
+before_refusal domain problem engine (answer.Unread (unread.WrongType word)) stops = tt
+before_refusal domain problem engine (answer.Unread (unread.UnknownFeature word)) stops = tt
+before_refusal domain problem engine (answer.Stopped stop.Usage) stops = absurd stops
+before_refusal domain problem engine (answer.Stopped stop.Memory) stops = tt
+before_refusal domain problem engine (answer.Stopped (stop.Missing at)) stops = absurd stops
+before_refusal domain problem engine (answer.Stopped (stop.ReadFault at)) stops = absurd stops
+before_refusal domain problem engine (answer.Stopped (stop.WriteFault at)) stops = absurd stops
+before_refusal domain problem engine (answer.Stopped stop.NoPipeline) stops = tt
+before_refusal domain problem engine (answer.Stopped (stop.InputTooLarge at)) stops = absurd stops
+
+-- ---- answers
+
+-- a stop at an input
+pub input_tells : (words : List (List ℕ)) (s : Stop) (end : ℕ) (held : Option Files) → IsInputStop end (stop_status s) → IfSome held (Tells words (answer.Stopped s))
+input_tells words stop.Usage end None kind = tt
+input_tells words stop.Memory end None kind = tt
+input_tells words (stop.Missing at) end None kind = tt
+input_tells words (stop.ReadFault at) end None kind = tt
+input_tells words (stop.WriteFault at) end None kind = tt
+input_tells words stop.NoPipeline end None kind = tt
+input_tells words (stop.InputTooLarge at) end None kind = tt
+input_tells words stop.Usage end (Some files) kind = tt
+input_tells words stop.Memory end (Some files) kind = tt
+input_tells words (stop.Missing at) end (Some files) kind = tt
+input_tells words (stop.ReadFault at) end (Some files) kind = tt
+input_tells words (stop.WriteFault at) end (Some files) kind = absurd kind
+input_tells words stop.NoPipeline end (Some files) kind = absurd kind
+input_tells words (stop.InputTooLarge at) end (Some files) kind = tt
+
+no_engine : (command : Option Command) → IsKind command → HasEngine command → ⊥
+no_engine None kind has = has
+no_engine (Some command.Kind) kind has = has
+no_engine (Some command.Pipeline) kind has = kind
+no_engine (Some (command.Compile limit)) kind has = kind
+
+kind_inputs : (words : List (List ℕ)) (domain problem : List ℕ) (files : Files) → IsKind (command_of words) → AreSources words domain problem files
+    → AreInputs words domain problem [] files
+kind_inputs words domain problem files kind sources = record { sources = sources; holds_engine = λ has. absurd (no_engine (command_of words) kind has) }
+
+tells_refused : (words : List (List ℕ)) (domain problem engine : List ℕ) (files : Files) (a : Answer) → AreInputs words domain problem engine files
+    → StopsBefore domain problem engine a → Tells words a files
+tells_refused words domain problem engine files (answer.Features kind) held stops = absurd stops
+tells_refused words domain problem engine files (answer.Chain chain) held stops = absurd stops
+tells_refused words domain problem engine files (answer.Actions count) held stops = absurd stops
+tells_refused words domain problem engine files (answer.Refused file place reason name) held stops = record { domain = domain; problem = problem; engine = engine; held = held; says = stops }
+tells_refused words domain problem engine files (answer.Unread unread.Memory) held stops = record { domain = domain; problem = problem; engine = engine; held = held; says = tt }
+tells_refused words domain problem engine files (answer.Unread unread.Toml) held stops = record { domain = domain; problem = problem; engine = engine; held = held; says = stops }
+tells_refused words domain problem engine files (answer.Unread (unread.UnknownKey word)) held stops = record { domain = domain; problem = problem; engine = engine; held = held; says = stops }
+tells_refused words domain problem engine files (answer.Unread (unread.NoKey word)) held stops = record { domain = domain; problem = problem; engine = engine; held = held; says = stops }
+tells_refused words domain problem engine files (answer.Unread (unread.WrongType word)) held stops = record { domain = domain; problem = problem; engine = engine; held = held; says = stops }
+tells_refused words domain problem engine files (answer.Unread (unread.UnknownFeature word)) held stops = record { domain = domain; problem = problem; engine = engine; held = held; says = stops }
+tells_refused words domain problem engine files (answer.Stopped stop.Usage) held stops = absurd stops
+tells_refused words domain problem engine files (answer.Stopped stop.Memory) held stops = tt
+tells_refused words domain problem engine files (answer.Stopped (stop.Missing at)) held stops = absurd stops
+tells_refused words domain problem engine files (answer.Stopped (stop.ReadFault at)) held stops = absurd stops
+tells_refused words domain problem engine files (answer.Stopped (stop.WriteFault at)) held stops = absurd stops
+tells_refused words domain problem engine files (answer.Stopped stop.NoPipeline) held stops = record { domain = domain; problem = problem; engine = engine; held = held; says = stops }
+tells_refused words domain problem engine files (answer.Stopped (stop.InputTooLarge at)) held stops = absurd stops
+
+-- a command over three texts that ends before it writes
+pub refused_tells : (words : List (List ℕ)) (domain problem engine : List ℕ) (held : Option Files) (a : Answer) → IfSome held (AreInputs words domain problem engine)
+    → StopsBefore domain problem engine a → IfSome held (Tells words a)
+refused_tells words domain problem engine None a held stops = tt
+refused_tells words domain problem engine (Some files) a held stops = tells_refused words domain problem engine files a held stops
+
+-- the same over two texts
+pub unread_tells : (words : List (List ℕ)) (domain problem : List ℕ) (held : Option Files) (a : Answer) → IsKind (command_of words)
+    → IfSome held (AreSources words domain problem) → StopsRead domain problem a → IfSome held (Tells words a)
+unread_tells words domain problem None a kind held stops = tt
+unread_tells words domain problem (Some files) a kind held stops =
+    tells_refused words domain problem [] files a (kind_inputs words domain problem files kind held) (read_stops domain problem [] a stops)
+
+pub features_tell : (words : List (List ℕ)) (domain problem : List ℕ) (held : Option Files) (kind : Kind) (parts : Parts) → IsKind (command_of words)
+    → IfSome held (AreSources words domain problem) → HaveForms domain problem → has kind.0 ≡ carries parts
+    → IfSome held (Tells words (answer.Features kind))
+features_tell words domain problem None kind parts of held forms features = tt
+features_tell words domain problem (Some files) kind parts of held forms features =
+    record {
+      domain = domain;
+      problem = problem;
+      engine = [];
+      held = kind_inputs words domain problem files of held;
+      says = record { forms = forms; parts = parts; features = features };
+    }
+
+pub chain_tells : (words : List (List ℕ)) (domain problem engine : List ℕ) (held : Option Files) (chain : Chain) → IfSome held (AreInputs words domain problem engine)
+    → HasChain domain problem engine chain.stages → IfSome held (Tells words (answer.Chain chain))
+chain_tells words domain problem engine None chain held has = tt
+chain_tells words domain problem engine (Some files) chain held has =
+    record { domain = domain; problem = problem; engine = engine; held = held; says = has }
+
+pub actions_tell : (words : List (List ℕ)) (domain problem engine : List ℕ) (held : Option Files) (count : ℕ) → IfSome held (AreInputs words domain problem engine)
+    → HaveForms domain problem → IfSome held (Tells words (answer.Actions count))
+actions_tell words domain problem engine None count held forms = tt
+actions_tell words domain problem engine (Some files) count held forms =
+    record { domain = domain; problem = problem; engine = engine; held = held; says = forms }
+
+-- a stop of the writes
+pub write_tells : (words : List (List ℕ)) (domain problem engine : List ℕ) (held : Option Files) (s : Stop) → IfSome held (AreInputs words domain problem engine)
+    → HaveForms domain problem → IsWriteStatus 4 6 (stop_status s) → IfSome held (Tells words (answer.Stopped s))
+write_tells words domain problem engine None s held forms kind = tt
+write_tells words domain problem engine (Some files) stop.Usage held forms kind = absurd kind
+write_tells words domain problem engine (Some files) stop.Memory held forms kind = tt
+write_tells words domain problem engine (Some files) (stop.Missing at) held forms kind = absurd kind
+write_tells words domain problem engine (Some files) (stop.ReadFault at) held forms kind = absurd kind
+write_tells words domain problem engine (Some files) (stop.WriteFault at) held forms kind = record { domain = domain; problem = problem; engine = engine; held = held; says = forms }
+write_tells words domain problem engine (Some files) stop.NoPipeline held forms kind = absurd kind
+write_tells words domain problem engine (Some files) (stop.InputTooLarge at) held forms kind = absurd kind
+
+-- the engine text is held
+pub engine_held : (words : List (List ℕ)) (domain problem engine : List ℕ) (held : Option Files) → HasEngine (command_of words)
+    → IfSome held (AreInputs words domain problem engine) → IfSome held (IsHeld words 3 engine)
+engine_held words domain problem engine None has held = tt
+engine_held words domain problem engine (Some files) has held = held.holds_engine has
+
+has_engine : (command : Option Command) → HasOutputs command → HasEngine command
+has_engine None has = has
+has_engine (Some command.Kind) has = has
+has_engine (Some command.Pipeline) has = tt
+has_engine (Some (command.Compile limit)) has = has
+
+pub outputs_engine : (words : List (List ℕ)) (domain problem engine : List ℕ) (held : Option Files) → HasOutputs (command_of words)
+    → IfSome held (AreInputs words domain problem engine) → IfSome held (IsHeld words 3 engine)
+outputs_engine words domain problem engine held has inputs = engine_held words domain problem engine held (has_engine (command_of words) has) inputs
+
+-- an answer before the writes tells nothing of outputs
+pub refused_compiles : (words : List (List ℕ)) (domain problem engine : List ℕ) (old new : Option Files) (a : Answer) → StopsBefore domain problem engine a
+    → CompilesAt words old new a
+refused_compiles words domain problem engine old new (answer.Features kind) stops = tt
+refused_compiles words domain problem engine old new (answer.Chain chain) stops = tt
+refused_compiles words domain problem engine old new (answer.Actions count) stops = absurd stops
+refused_compiles words domain problem engine old new (answer.Refused file place reason name) stops = tt
+refused_compiles words domain problem engine old new (answer.Unread error) stops = tt
+refused_compiles words domain problem engine old new (answer.Stopped s) stops = tt
+
+pub unread_compiles : (words : List (List ℕ)) (domain problem : List ℕ) (old new : Option Files) (a : Answer) → StopsRead domain problem a
+    → CompilesAt words old new a
+unread_compiles words domain problem old new a stops = refused_compiles words domain problem [] old new a (read_stops domain problem [] a stops)
+
+pub compiles_from : (words : List (List ℕ)) (old mid new : Option Files) (a : Answer) → mid ≡ old → CompilesAt words mid new a → CompilesAt words old new a
+compiles_from words old mid new a same compiles = rw (← same) compiles
+
+pub ruleset tells = (refused_compiles, unread_compiles, input_tells, refused_tells, unread_tells, features_tell, chain_tells, actions_tell, write_tells, before_refusal)
