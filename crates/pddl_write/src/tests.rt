@@ -1,11 +1,15 @@
+use crate::effect::put_action;
 use crate::number::put_number;
 use crate::{domain_pieces, problem_pieces, write_domain, write_problem};
 use std::alloc::Global;
+use std::process::Abort;
 use up_frac::Frac;
 use up_line::Line;
 use up_store::Pieces;
-use up_text::{List, Memory, Name};
-use up_tree::{Action, Effect, Fact, Formula, Parts, Predicate, Problem, Row, Term, Typed};
+use up_text::{Box, List, Memory, Name};
+use up_tree::{
+    Action, Change, Effect, Expr, Fact, Formula, Parts, Predicate, Problem, Row, Term, Typed,
+};
 
 const DOMAIN: [&str; 14] = [
     "(define (domain gripper)\n",
@@ -298,4 +302,123 @@ fn numbers(rt: HostRuntime) {
         put_number(&mut line, number);
         assert_eq!(rt; line.bytes(), want.as_bytes());
     }
+}
+
+// An action without parameters, conditions and effects.
+fn idle(alloc: Global, name: Name) -> Action {
+    Action {
+        name,
+        params: List::new(alloc),
+        pre: Formula::And(List::new(alloc)),
+        rows: List::new(alloc),
+    }
+}
+
+// An effect that comes for each place.
+fn forgotten(alloc: Global) -> Result<Row, Memory> {
+    let mut row = delete(alloc, "loc-val", &["?t", "?v"])?;
+    row.vars = typed(alloc, &["v"], "place")?;
+    Ok(row)
+}
+
+fn forgetting(alloc: Global) -> Result<Action, Memory> {
+    let mut action = idle(alloc, name(alloc, "lift")?);
+    action.params = typed(alloc, &["t"], "truck")?;
+    action.rows.push(forgotten(alloc)?)?;
+    Ok(action)
+}
+
+fn negation(alloc: Global, condition: Formula) -> Result<Formula, Memory> {
+    Ok(Formula::Not(Box::new(alloc, condition)?))
+}
+
+fn disjunction(alloc: Global) -> Result<Formula, Memory> {
+    let mut conditions = List::new(alloc);
+    conditions.push(negation(alloc, atom(alloc, "q", &[])?)?)?;
+    conditions.push(atom(alloc, "was", &[])?)?;
+    Ok(Formula::Or(conditions))
+}
+
+fn remembered_condition(alloc: Global) -> Result<Formula, Memory> {
+    let mut conditions = List::new(alloc);
+    conditions.push(atom(alloc, "p", &[])?)?;
+    conditions.push(disjunction(alloc)?)?;
+    Ok(Formula::And(conditions))
+}
+
+// An effect with a condition.
+fn conditional(alloc: Global) -> Result<Row, Memory> {
+    let mut row = add(alloc, "was", &[])?;
+    row.when = atom(alloc, "r", &[])?;
+    Ok(row)
+}
+
+fn remembering(alloc: Global) -> Result<Action, Memory> {
+    let mut action = idle(alloc, name(alloc, "a")?);
+    action.pre = remembered_condition(alloc)?;
+    action.rows = swapped(alloc)?;
+    action.rows.push(conditional(alloc)?)?;
+    Ok(action)
+}
+
+fn swapped(alloc: Global) -> Result<List<Row>, Memory> {
+    let mut rows = List::new(alloc);
+    rows.push(add(alloc, "q", &[])?)?;
+    rows.push(delete(alloc, "p", &[])?)?;
+    Ok(rows)
+}
+
+// A number that rises.
+fn rising(alloc: Global) -> Result<Row, Memory> {
+    let time = Expr::Fluent(name(alloc, "time")?, terms(alloc, &["n1", "n2"])?);
+    let cost = name(alloc, "total-cost")?;
+    row(
+        alloc,
+        Effect::Number(Change::Increase, cost, List::new(alloc), time),
+    )
+}
+
+fn moved(alloc: Global) -> Result<List<Row>, Memory> {
+    let mut rows = List::new(alloc);
+    rows.push(delete(alloc, "at", &["n1"])?)?;
+    rows.push(add(alloc, "at", &["n2"])?)?;
+    Ok(rows)
+}
+
+fn walking(alloc: Global) -> Result<Action, Memory> {
+    let mut action = idle(alloc, name(alloc, "walk-n1-n2")?);
+    action.pre = atom(alloc, "at", &["n1"])?;
+    action.rows = moved(alloc)?;
+    action.rows.push(rising(alloc)?)?;
+    Ok(action)
+}
+
+fn assert_action(rt: &impl Abort, alloc: Global, action: Result<Action, Memory>, want: &str) {
+    let action = action.expect(rt, "an action");
+    let mut line = Line::with_room(alloc, 300).expect(rt, "room");
+    put_action(&mut line, true, &action);
+    assert_eq!(rt; line.bytes(), want.as_bytes());
+}
+
+#[test]
+fn actions(rt: HostRuntime) {
+    let alloc = rt.alloc();
+    assert_action(
+        &rt,
+        alloc,
+        forgetting(alloc),
+        "(:action lift :parameters (?t - truck) :precondition (and) :effect (and (forall (?v - place) (not (loc-val ?t ?v)))))\n",
+    );
+    assert_action(
+        &rt,
+        alloc,
+        remembering(alloc),
+        "(:action a :parameters () :precondition (and (p) (or (not (q)) (was))) :effect (and (q) (not (p)) (when (r) (was))))\n",
+    );
+    assert_action(
+        &rt,
+        alloc,
+        walking(alloc),
+        "(:action walk-n1-n2 :parameters () :precondition (at n1) :effect (and (not (at n1)) (at n2) (increase (total-cost) (time n1 n2))))\n",
+    );
 }

@@ -1,31 +1,73 @@
-// The program: the working folder as the store, standard output as the sink.
+//! The program: the working folder as the store, standard output as the sink.
 #![tactic(auto)]
 
-use std::env;
-use std::process::ExitCode;
-use std::rt::Env;
-use up_store::{FolderStore, StdSink, Word};
-use up_text::Memory;
-use up_top::run;
+ghost use Rattle.std.specs.Prelude.{◌≡◌, ◌++◌, [], map, drop, string_bytes, IfOk, IfErr, OnErr};
+ghost use Rattle.std.specs.Vec.Iter.{into_iter_items};
+ghost use Rattle.std.specs.IoError.{error_kind};
+ghost use Rattle.std.specs.declared.io.ErrorKind.TheVariants.{OutOfMemory};
+ghost use Rattle.up_main.specs.Ran.{Ran};
 
-// The words behind the program's name; none where they are no text.
-fn words_of<R: Env + AllocGlobal>(rt: &R) -> Result<Vec<Word>, Memory> {
-    let mut words = Vec::new(rt.alloc());
-    let Ok(args) = env::args(rt) else {
-        return Ok(words);
-    };
-    for arg in args.skip(1) {
-        words.push(Word::from_text(arg))?;
+use std::alloc::Global;
+use std::env::{self, Args};
+use std::io;
+use std::io::ErrorKind;
+use std::process::ExitCode;
+use up_store::{FolderStore, Sink, StdSink, Store, Word};
+use up_text::Memory;
+use up_top::{Status, run};
+
+// The words that these are.
+fn words_of(alloc: Global, texts: Args) -> Result<Vec<Word>, Memory>
+    ensures { IfOk result (λ words. words.items ≡ map string_bytes (into_iter_items texts)) }
+{
+    let mut words = Vec::new(alloc);
+    for text in texts {
+        words.push(Word::from_text(text))?;
     }
     Ok(words)
 }
 
+// The words behind the program's name; none where the arguments are no text.
+fn words_behind_name(alloc: Global, args: io::Result<Args>) -> Result<Vec<Word>, Memory>
+    ensures text { IfOk args (λ args. IfOk result (λ words. words.items ≡ drop 1 (map string_bytes (into_iter_items args)))) }
+    ensures no_text { OnErr args (IfOk result (λ words. words.items ≡ [])) }
+    ensures memory { IfErr args (λ error. error_kind error ≡ OutOfMemory → result ≡ Err Memory) }
+{
+    match args {
+        Ok(mut args) => {
+            let _program = args.next();
+            words_of(alloc, args)
+        }
+        Err(error) => {
+            if error.kind() == ErrorKind::OutOfMemory {
+                return Err(Memory);
+            }
+            Ok(Vec::new(alloc))
+        }
+    }
+}
+
+// Runs the words, and gives the number of the status. Where there was no memory for the words, it is that of want of memory.
+fn ended<W: Store, K: Sink>(
+    alloc: Global,
+    words: Result<Vec<Word>, Memory>,
+    store: &mut W,
+    out: &mut K,
+) -> u8
+    ensures ran { IfOk words (λ words. Ran words.items (W.held store.old) (K.faults out.old) (K.faults out.new) (K.written out.old) (K.written out.new) result) }
+    ensures memory { OnErr words (result ≡ 2) }
+    ensures held { OnErr words (W.held store.new ≡ W.held store.old) }
+    ensures written { OnErr words (K.written out.new ≡ K.written out.old) }
+{
+    match words {
+        Ok(words) => run(alloc, words.as_slice(), store, out).code(),
+        Err(Memory) => Status::Memory.code(),
+    }
+}
+
 fn main(rt: HostRuntime) -> ExitCode {
-    let Ok(words) = words_of(&rt) else {
-        return ExitCode::from(2);
-    };
+    let words = words_behind_name(rt.alloc(), env::args(&rt));
     let mut store = FolderStore::new(&rt);
     let mut out = StdSink::new(&rt);
-    let status = run(rt.alloc(), words.as_slice(), &mut store, &mut out);
-    ExitCode::from(status.code())
+    ExitCode::from(ended(rt.alloc(), words, &mut store, &mut out))
 }

@@ -10,9 +10,11 @@ returns-in-Ok-write_outputs-clause-held g c =
 
 pub returns-in-Ok-write_outputs-clause-compiles : goal.returns-in-Ok-write_outputs-clause-compiles
 returns-in-Ok-write_outputs-clause-compiles g c =
-    compiles _ _ _ c.args.whole.now.problem c.args.whole.now.map _ _ _ _
+    rw c.len.ensures
+    (rw c.parts.ensures
+    (compiles _ _ _ c.args.whole.now.problem c.args.whole.now.map _ _ _ _
     (outputs_engine _ _ _ _ _ c.requires.outputs c.requires.texts) c.requires.whole
-    c.in-Ok.ensures c.in-Ok-problem_pieces.ensures c.in-Ok-map_pieces.ensures c.in-Ok-write_outputs.ensures.held
+    c.in-Ok.ensures c.in-Ok-problem_pieces.ensures c.in-Ok-map_pieces.ensures c.in-Ok-write_outputs.ensures.held))
 
 pub returns-clause-held : goal.returns-clause-held
 returns-clause-held g c =
