@@ -1,7 +1,7 @@
 //! The program: the working folder as the store, standard output as the sink.
 #![tactic(auto)]
 
-ghost use Rattle.std.specs.Prelude.{◌≡◌, ◌++◌, [], map, drop, string_bytes, IfOk, IfErr, OnErr};
+ghost use Rattle.std.specs.Prelude.{◌≡◌, [], map, drop, string_bytes, IfOk, IfErr, OnErr, is_ok, false};
 ghost use Rattle.std.specs.Vec.Iter.{into_iter_items};
 ghost use Rattle.std.specs.IoError.{error_kind};
 ghost use Rattle.std.specs.declared.io.ErrorKind.TheVariants.{OutOfMemory};
@@ -31,7 +31,7 @@ fn words_of(alloc: Global, texts: Args) -> Result<Vec<Word>, Memory>
 fn words_behind_name(alloc: Global, args: io::Result<Args>) -> Result<Vec<Word>, Memory>
     ensures text { IfOk args (λ args. IfOk result (λ words. words.items ≡ drop 1 (map string_bytes (into_iter_items args)))) }
     ensures no_text { OnErr args (IfOk result (λ words. words.items ≡ [])) }
-    ensures memory { IfErr args (λ error. error_kind error ≡ OutOfMemory → result ≡ Err Memory) }
+    ensures memory { IfErr args (λ error. error_kind error ≡ OutOfMemory → is_ok result ≡ false) }
 {
     match args {
         Ok(mut args) => {
