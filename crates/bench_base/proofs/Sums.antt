@@ -1,6 +1,7 @@
 -- What one step more adds.
 use Rattle.std.proofs.Common.{◌≡◌, ℕ, ◌+◌, ◌-◌, List, [], ◌∷◌, ◌++◌, pos, refl, sym, ap, ◌∙◌, add-one}
 use Rattle.std.specs.Prelude.{◌↔◌, Result, Ok, Err, IsErrOf}
+use Rattle.up_frac.specs.Fraction.{Fraction}
 use Rattle.up_frac.specs.Arithmetic.{quotient_of}
 use Rattle.up_frac.specs.declared.frac_error.FracError.{FracError}
 use Rattle.up_frac.specs.declared.frac_error.FracError.TheVariants.{TooLarge}

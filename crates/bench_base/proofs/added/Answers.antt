@@ -1,4 +1,4 @@
-use Rattle.std.proofs.Common.{rules, arith, ◌<◌, ◌^◌, below_more, refl}
+use Rattle.std.proofs.Common.{rules, arith, ◌≡◌, ◌<◌, ◌^◌, below_more, refl}
 use Rattle.std.proofs.lemmas.Grind.{common_steps}
 use Rattle.bench_base.proofs.Sums.{sums, no_cause}
 use Rattle.bench_base.proofs.added.Goals as goal
