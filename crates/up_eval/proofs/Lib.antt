@@ -1,0 +1,5 @@
+pub mod Maps
+pub mod Initial
+pub mod Numbers
+pub mod Scopes
+pub mod Conditions
