@@ -1,5 +1,5 @@
 -- The initial state of a well-formed problem is a state of it.
-use Rattle.std.proofs.Common.{◌≡◌, Bool, true, false, true≢false, cond, ◌||◌, List, [], ◌∷◌, ◌++◌, map, Option, Some, None, IsSome, refl, ap, sym, ◌∙◌, subst}
+use Rattle.std.proofs.Common.{◌≡◌, Bool, true, false, true≢false, cond, ◌||◌, List, [], ◌∷◌, ◌++◌, map, length, arith, Option, Some, None, IsSome, refl, ap, sym, ◌∙◌, subst}
 use Rattle.std.specs.Prelude.{unwrap_or}
 use Rattle.std.specs.Ordering.{eq_by_cmp}
 use Rattle.std.specs.List.{list_any}
@@ -110,3 +110,18 @@ unfolding init
 init-parts p = refl
 
 pub ruleset initials = (init-parts)
+
+-- ---- where nothing is left
+
+nothing : {X : Type 0} (xs : List X) → length xs ≡ 0 → xs ≡ []
+nothing [] e = refl
+nothing (x ∷ xs) e = absurd (omega arith)
+
+pub add_end : (left : List Fact) (s : set.FinSet ground_cmp) → length left ≡ 0 → add_all (ground_atoms left) s ≡ s
+add_end left s e = ap (λ fs. add_all (ground_atoms fs) s) (nothing left e)
+
+pub put_number_end : (left : List NumberFact) (m : table.FinMap ground_cmp Fraction) → length left ≡ 0 → put_all (number_entries left) m ≡ m
+put_number_end left m e = ap (λ fs. put_all (number_entries fs) m) (nothing left e)
+
+pub put_value_end : (left : List ValueFact) (m : table.FinMap ground_cmp Name) → length left ≡ 0 → put_all (value_entries left) m ≡ m
+put_value_end left m e = ap (λ fs. put_all (value_entries fs) m) (nothing left e)

@@ -1,5 +1,4 @@
 pub mod Maps
 pub mod Initial
-pub mod Numbers
 pub mod Scopes
-pub mod Conditions
+pub mod Grounds

@@ -1,5 +1,3 @@
 pub mod Keys
 pub mod Initial
 pub mod Scope
-pub mod Numbers
-pub mod Conditions

@@ -5,13 +5,13 @@ ghost use Rattle.up_tree.specs.State.{init, number_at, object_at};
 ghost use Rattle.up_eval.specs.Initial.{ground_atoms, number_entries, value_entries, IsOfWellFormed};
 ghost use Rattle.std.specs.FinMap as table;
 
-use crate::ground::{Ground, names_copy};
+use crate::ground::Ground;
 use crate::table::{Atoms, Table};
 use std::alloc::Global;
 use std::marker::Model;
 use up_frac::Frac;
 use up_text::{List, Memory, Name};
-use up_tree::{Fact, NumberFact, Problem, ValueFact};
+use up_tree::{Fact, NumberFact, Parts, Problem, ValueFact};
 
 /// Which ground atoms are true, and the numbers and objects of the ground terms that have a value.
 #[derive(Drop)]
@@ -32,21 +32,13 @@ impl Model for State {
 }
 
 impl State {
-    #[tactic(auto, using(crate::proofs::Initial::init_is_of, crate::proofs::Initial::initials))]
     /// The state that the initial atoms, numbers and objects of a problem make.
     pub fn init(alloc: Global, p: &Problem) -> Result<State, Memory>
         ensures value { IfOk result (λ state. state ≡ init p.now) }
         ensures typed { IfOk result (IsOfWellFormed p.now) }
     {
-        let parts = p.parts();
-        let atoms = atoms_of(alloc, parts.atoms.as_slice())?;
-        let numbers = numbers_of(alloc, parts.numbers.as_slice())?;
-        let values = values_of(alloc, parts.values.as_slice())?;
-        Ok(State {
-            atoms,
-            numbers,
-            values,
-        })
+        let state = state_of(alloc, p.parts())?;
+        Ok(state)
     }
 
     pub(crate) fn holds(&self, atom: &Ground) -> bool
@@ -80,11 +72,25 @@ fn key_of(alloc: Global, name: &Name, objects: &[Name]) -> Result<Ground, Memory
     Ok(Ground::new(names))
 }
 
-fn atoms_of(alloc: Global, facts: &[Fact]) -> Result<Atoms, Memory>
+fn state_of(alloc: Global, parts: &Parts) -> Result<State, Memory>
+    ensures { IfOk result (λ state. state ≡ init parts.now) }
+{
+    let atoms = atoms_of(alloc, &parts.atoms)?;
+    let numbers = numbers_of(alloc, &parts.numbers)?;
+    let values = values_of(alloc, &parts.values)?;
+    Ok(State {
+        atoms,
+        numbers,
+        values,
+    })
+}
+
+#[tactic(auto, using(crate::proofs::Initial::add_end))]
+fn atoms_of(alloc: Global, facts: &List<Fact>) -> Result<Atoms, Memory>
     ensures { IfOk result (λ atoms. atoms ≡ set.from_list (ground_atoms facts.now)) }
 {
     let mut atoms = Atoms::new(alloc);
-    let mut left = facts;
+    let mut left = facts.as_slice();
     'facts: while let Some((fact, before)) = left.split_last() {
         atoms.insert(key_of(alloc, &fact.predicate, fact.args.as_slice())?)?;
         left = before;
@@ -92,11 +98,12 @@ fn atoms_of(alloc: Global, facts: &[Fact]) -> Result<Atoms, Memory>
     Ok(atoms)
 }
 
-fn numbers_of(alloc: Global, facts: &[NumberFact]) -> Result<Table<Frac>, Memory>
+#[tactic(auto, using(crate::proofs::Initial::put_number_end))]
+fn numbers_of(alloc: Global, facts: &List<NumberFact>) -> Result<Table<Frac>, Memory>
     ensures { IfOk result (λ numbers. numbers ≡ table.from_entries (number_entries facts.now)) }
 {
     let mut numbers = Table::new(alloc);
-    let mut left = facts;
+    let mut left = facts.as_slice();
     'facts: while let Some((fact, before)) = left.split_last() {
         let term = key_of(alloc, &fact.function, fact.args.as_slice())?;
         numbers.insert(term, fact.value)?;
@@ -105,11 +112,12 @@ fn numbers_of(alloc: Global, facts: &[NumberFact]) -> Result<Table<Frac>, Memory
     Ok(numbers)
 }
 
-fn values_of(alloc: Global, facts: &[ValueFact]) -> Result<Table<Name>, Memory>
+#[tactic(auto, using(crate::proofs::Initial::put_value_end))]
+fn values_of(alloc: Global, facts: &List<ValueFact>) -> Result<Table<Name>, Memory>
     ensures { IfOk result (λ values. values ≡ table.from_entries (value_entries facts.now)) }
 {
     let mut values = Table::new(alloc);
-    let mut left = facts;
+    let mut left = facts.as_slice();
     'facts: while let Some((fact, before)) = left.split_last() {
         let term = key_of(alloc, &fact.function, fact.args.as_slice())?;
         values.insert(term, fact.value.copy(alloc)?)?;
