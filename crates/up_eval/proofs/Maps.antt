@@ -22,17 +22,19 @@ module _ {X : Type 0} where
   pub get-is : (es : List (Ground × X)) (q : Ground) → table.get (table.from_entries {R = ground_cmp} es) q ≡ lookup (map_tree.is_at (ground_cmp q)) es
   get-is es q = table.get-from_entries ground_total es q ∙ find-is es q
 
-  pub insert-is : (m n : map_tree.BTreeMap Ground X) (k : Ground) (v : X) → map_tree.Updates ground_cmp m n k (Some v)
-      → table.from_entries {R = ground_cmp} n.entries ≡ table.insert (table.from_entries m.entries) k v
-  insert-is m n k v h =
-      table.same_map ground_total ground_ties _ _ (λ q. get-is n.entries q ∙ h.0 q
-      ∙ sym (table.get-insert ground_total (table.from_entries m.entries) k v q ∙ (λ i. cond (turn q k i) (Some v) (get-is m.entries q i))))
+  pub insert-is : (es fs : List (Ground × X)) (k : Ground) (v : X)
+      → ((q : Ground) → lookup (map_tree.is_at (ground_cmp q)) fs ≡ cond (map_tree.is_at (ground_cmp k) q) (Some v) (lookup (map_tree.is_at (ground_cmp q)) es))
+      → table.from_entries {R = ground_cmp} fs ≡ table.insert (table.from_entries es) k v
+  insert-is es fs k v h =
+      table.same_map ground_total ground_ties _ _ (λ q. get-is fs q ∙ h q
+      ∙ sym (table.get-insert ground_total (table.from_entries es) k v q ∙ (λ i. cond (turn q k i) (Some v) (get-is es q i))))
 
-  pub remove-is : (m n : map_tree.BTreeMap Ground X) (k : Ground) → map_tree.UpdatesBy ground_cmp (ground_cmp k) m n None
-      → table.from_entries {R = ground_cmp} n.entries ≡ table.remove (table.from_entries m.entries) k
-  remove-is m n k h =
-      table.same_map ground_total ground_ties _ _ (λ q. get-is n.entries q ∙ h.0 q
-      ∙ sym (table.get-remove ground_total (table.from_entries m.entries) k q ∙ (λ i. cond (turn q k i) None (get-is m.entries q i))))
+  pub remove-is : (es fs : List (Ground × X)) (k : Ground)
+      → ((q : Ground) → lookup (map_tree.is_at (ground_cmp q)) fs ≡ cond (map_tree.is_at (ground_cmp k) q) None (lookup (map_tree.is_at (ground_cmp q)) es))
+      → table.from_entries {R = ground_cmp} fs ≡ table.remove (table.from_entries es) k
+  remove-is es fs k h =
+      table.same_map ground_total ground_ties _ _ (λ q. get-is fs q ∙ h q
+      ∙ sym (table.get-remove ground_total (table.from_entries es) k q ∙ (λ i. cond (turn q k i) None (get-is es q i))))
 
 pub contains-is : (ks : List Ground) (q : Ground) → set.contains (set.from_list {R = ground_cmp} ks) q ≡ list_any (map_tree.is_at (ground_cmp q)) ks
 contains-is ks q = set.contains-from_list ground_total ks q
