@@ -1,13 +1,26 @@
 //! Maps from a compiled problem's steps back to the source's, as texts.
 #![tactic(auto)]
 
+mod back_error;
+mod converting;
+mod cut;
+mod entry;
+mod law;
 mod map;
+mod map_error;
+mod number;
 mod piecewise;
+mod read;
 mod steps;
 #[cfg(test)]
 mod tests;
 mod write;
 
+pub use back_error::BackError;
+pub use converting::back;
+pub use law::map_text_law;
 pub use map::Map;
+pub use map_error::MapError;
 pub use piecewise::MapPieces;
+pub use read::read_map;
 pub use write::{map_pieces, write_map};
