@@ -1,4 +1,4 @@
-use crate::File;
+use up_check::File;
 
 /// A text with `@` before the place of its first fault, then the words of the reason and of the name at fault. A text without fault
 /// has neither.

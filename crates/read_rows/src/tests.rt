@@ -1,5 +1,5 @@
-use crate::read_problem;
 use std::test::Fail;
+use up_check::read_problem;
 use up_tree::Typed;
 
 const GD: &str = "(define (domain gripper)

@@ -1,7 +1,7 @@
 use crate::refused_texts::{Frame, Row, TABLES};
-use crate::{File, ReadError, read_problem};
 use std::alloc::{AllocError, Global};
 use std::process::Abort;
+use up_check::{File, ReadError, read_problem};
 use up_text::{Name, Place};
 use up_tree::Problem;
 
