@@ -12,8 +12,6 @@ mod phrase;
 mod problem;
 mod problem_piecewise;
 mod term;
-#[cfg(test)]
-mod tests;
 mod write;
 
 pub use domain_piecewise::DomainPieces;
