@@ -1,7 +1,10 @@
 #!/usr/bin/env python3
-"""How `kind` grows with the rows of an action: a problem of 100,000 facts whose one action has 300 and 3,000 rows,
-half of them deletes and half adds. In one domain each row has a predicate of its own; in the other all have one, and
-no two of them meet, since each is on a constant of its own. Prints seconds, and how they grow as ratios.
+"""How `kind` grows with the rows of an action, half of them deletes and half adds, of which no two meet. Prints
+seconds, and how they grow as ratios, for three sorts of rows:
+
+- 300 and 3,000 rows beside 100,000 facts, each of a predicate of its own;
+- the same of one predicate, each on a constant of its own;
+- 100 and 300 rows of one predicate beside 10,000 objects, each on a variable whose type is its own.
 
 It stands outside the gate. Build the program first: any call of ./nadvorzet does so."""
 import os
@@ -12,6 +15,7 @@ sys.dont_write_bytecode = True
 from measure import measured, program
 
 FACTS = 100_000
+OBJECTS = 10_000
 
 
 def domain(rows, shared):
@@ -23,6 +27,21 @@ def domain(rows, shared):
     effects = " ".join(f"(not {atom})" if k % 2 else atom for k, atom in enumerate(atoms))
     return (f"(define (domain wide) (:constants {constants}) (:predicates (at ?a) {predicates})\n"
             f" (:action change :effect (and {effects})))\n")
+
+
+def typed_domain(rows):
+    """`rows` rows, a delete and an add in turn, of one predicate on variables of as many types."""
+    types = " ".join(f"t{k}" for k in range(rows))
+    parameters = " ".join(f"?x{k} - t{k}" for k in range(rows))
+    effects = " ".join(f"(not (p ?x{k}))" if k % 2 else f"(p ?x{k})" for k in range(rows))
+    return (f"(define (domain typed) (:types {types}) (:predicates (p ?a))\n"
+            f" (:action change :parameters ({parameters}) :effect (and {effects})))\n")
+
+
+def typed_problem(rows):
+    """10,000 objects, of the types in turn."""
+    objects = " ".join(f"o{k} - t{k % rows}" for k in range(OBJECTS))
+    return f"(define (problem many) (:domain typed) (:objects {objects}) (:init (p o0)) (:goal (p o0)))\n"
 
 
 def problem():
@@ -44,6 +63,13 @@ def main():
                 times.append(seconds)
             label = "one predicate" if shared else "a predicate a row"
             print(f"{label}: 300 rows {times[0]:.2f} s, 3,000 rows {times[1]:.2f} s, {times[1] / times[0]:.1f} times")
+        times = []
+        for rows in (100, 300):
+            write("d", typed_domain(rows))
+            write("p", typed_problem(rows))
+            seconds, _, _ = measured(compiler, ["kind", "d", "p"], folder)
+            times.append(seconds)
+        print(f"a type a row: 100 rows {times[0]:.2f} s, 300 rows {times[1]:.2f} s, {times[1] / times[0]:.1f} times")
 
 
 main()

@@ -1,11 +1,10 @@
 -- Types beside names, and types above types.
-use Rattle.std.proofs.Common.{◌≡◌, ℕ, zero, suc, Bool, true, false, ◌||◌, cond, List, [], ◌∷◌, ◌++◌, length, Option, None, Some, option_map, refl, sym, ◌∙◌}
-use Rattle.std.specs.Prelude.{find, unwrap_or}
-use Rattle.std.specs.List.{list_any}
+use Rattle.std.proofs.Common.{◌≡◌, Bool, true, false, cond, List, [], ◌∷◌, ◌++◌, Option, None, Some, option_map, refl}
+use Rattle.std.specs.Prelude.{find}
 use Rattle.up_text.specs.declared.name.Name.{Name}
 use Rattle.up_text.specs.Names.{same_name}
 use Rattle.up_tree.specs.declared.term.Typed.{Typed}
-use Rattle.up_tree.specs.Objects.{type_in, chain}
+use Rattle.up_tree.specs.Objects.{type_in}
 
 -- the first list's entry, or else the second's
 abbrev pub or_else : Option Name → Option Name → Option Name

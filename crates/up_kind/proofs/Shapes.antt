@@ -1,5 +1,5 @@
 -- What a condition carries by its node and its members, one equation for each node as code builds it.
-use Rattle.std.proofs.Common.{◌≡◌, Bool, true, false, ◌||◌, List, [], ◌∷◌, refl, ap, sym, ◌∙◌}
+use Rattle.std.proofs.Common.{◌≡◌, Bool, false, ◌||◌, List, refl, ap, ◌∙◌}
 use Rattle.std.specs.List.{list_any}
 use Rattle.up_text.specs.declared.name.Name.{Name}
 use Rattle.up_tree.specs.declared.term.Term.{Term}
@@ -9,9 +9,8 @@ use Rattle.up_tree.specs.declared.formula.Relation.{Relation}
 use Rattle.up_tree.specs.declared.formula.Formula.{Formula, And, Or, Not, Imply, Exists, Forall, Atom, Equal, Compare, Row_of-Formula, end_of-Formula, more_of-Formula, items-the_row-Formula, items_hidden-the_row-Formula-0}
 use Rattle.up_tree.specs.declared.formula.Formula.TheBlock.{hidden-the_row-Formula-0}
 use Rattle.up_tree.specs.Nodes.{built}
-use Rattle.up_kind.specs.declared.feature.Feature.{Feature}
 use Rattle.up_kind.specs.declared.feature.Feature.TheVariants.{DisjunctiveConditions, Equalities, ExistentialConditions, UniversalConditions, NumericConditions}
-use Rattle.up_kind.specs.Features.{FeatureSet, none, alone, either, over}
+use Rattle.up_kind.specs.Features.{none, alone, either, over}
 use Rattle.up_tree.specs.declared.expr.Expr.{Number, Sum, Difference, Product, Quotient}
 use Rattle.up_tree.specs.declared.expr.Expr as expr
 use Rattle.up_tree.specs.Simplify.{is_empty, is_always}

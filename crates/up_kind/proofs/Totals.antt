@@ -1,5 +1,5 @@
 -- Typed tuples by their first argument, and values by the arguments that they begin with.
-use Rattle.std.proofs.Common.{◌≡◌, ℕ, zero, suc, ◌+◌, ◌≤◌, Bool, true, false, ◌||◌, ◌&&◌, not, cond, List, [], ◌∷◌, ◌++◌, map, filter, take, length, append_assoc, add-one, Option, None, Some, refl, ap, subst, sym, ◌∙◌, arith}
+use Rattle.std.proofs.Common.{◌≡◌, suc, ◌+◌, ◌≤◌, Bool, true, false, ◌||◌, ◌&&◌, not, cond, List, [], ◌∷◌, ◌++◌, map, filter, take, length, append_assoc, None, Some, refl, ap, subst, sym, ◌∙◌, arith}
 use Rattle.std.specs.Prelude.{flat_map, nat_eq, find}
 use Rattle.std.specs.List.{list_all, list_any}
 use Rattle.std.specs.Cmp.Lexicographic.{pointwise}
@@ -11,14 +11,13 @@ use Rattle.up_text.specs.Names.{same_name}
 use Rattle.up_tree.specs.declared.problem.Parts.{Parts}
 use Rattle.up_tree.specs.declared.term.Typed.{Typed}
 use Rattle.up_tree.specs.Objects.{world, is_below, objects_of}
-use Rattle.up_tree.specs.Simplify.{is_empty}
 use Rattle.up_kind.specs.Carried.{type_tuples, has_value}
 use Rattle.up_tree.specs.declared.problem.ValueFact.{ValueFact}
 use Rattle.up_kind.specs.Values.{begins, begins_with, NoneWith, has_object, are_inhabited, covers, covers_with}
 
 -- ---- what begins so
 
-same_is : (a b : Name) → same_name a b ≡ true → a ≡ b
+pub same_is : (a b : Name) → same_name a b ≡ true → a ≡ b
 same_is a b is = (bytes_eq-Decides a b).0 is
 
 pub begins_take : (prefix : List Name) (next : Name) (names : List Name) → begins prefix next names ≡ true

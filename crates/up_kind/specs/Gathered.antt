@@ -1,11 +1,9 @@
 -- What each part of a problem carries, as one walk gathers it.
-use Rattle.std.specs.Prelude.{Bool, true, false, ◌&&◌, not as flip, is_some, List}
-use Rattle.std.specs.List.{list_any}
+use Rattle.std.specs.Prelude.{◌&&◌, not as flip, is_some}
 use Rattle.up_tree.specs.declared.formula.Formula.{Formula, And', Or', Atom, Equal, Compare}
 use Rattle.up_tree.specs.declared.action.Row.{Row}
 use Rattle.up_tree.specs.declared.action.Action.{Action}
 use Rattle.up_tree.specs.declared.action.Effect.{Effect}
-use Rattle.up_tree.specs.declared.action.Effect.TheVariants as effect
 use Rattle.up_tree.specs.declared.problem.Constraint.{Constraint}
 use Rattle.up_tree.specs.declared.problem.Function.{Function}
 use Rattle.up_tree.specs.declared.problem.Parts.{Parts}

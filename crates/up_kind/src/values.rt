@@ -64,7 +64,7 @@ fn has_value(parts: &Parts, f: &Name, args: &[Name]) -> bool
 }
 
 #[tactic(auto, using(crate::proofs::Totals::totals))]
-fn has_object(parts: &Parts, of: &Name) -> bool
+pub(crate) fn has_object(parts: &Parts, of: &Name) -> bool
     ensures { result ≡ has_object parts.now of.now }
 {
     for object in parts.objects.as_slice() {

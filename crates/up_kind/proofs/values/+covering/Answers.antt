@@ -1,4 +1,4 @@
-use Rattle.std.proofs.Common.{◌≡◌, ◌∙◌, sym}
+use Rattle.std.proofs.Common.{◌∙◌, sym}
 use Rattle.up_kind.proofs.Totals.{covers_ends}
 use Rattle.up_kind.proofs.values.+covering.Goals as goal
 
