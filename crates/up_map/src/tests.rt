@@ -1,11 +1,11 @@
 use crate::steps::put_entry;
-use crate::{Map, map_pieces, write_map};
+use crate::{BackError, Map, back as converted, map_pieces, write_map};
 use std::alloc::Global;
 use up_compiler::{Back, Chain, CompilerId, Entry, Item, Target, identity};
 use up_line::Line;
 use up_store::Pieces;
 use up_text::{List, Memory, Name};
-use up_tree::{Action, Formula, Parts, Problem, Typed};
+use up_tree::{Action, Formula, Parts, Plan, Problem, Step, Typed};
 
 const LINES: [&str; 6] = [
     "up-map 1\n",
@@ -139,5 +139,44 @@ fn entries(rt: HostRuntime) {
         let mut line = Line::with_room(alloc, 60).expect(&rt, "room");
         put_entry(&mut line, &entry);
         assert_eq!(rt; line.bytes(), want.as_bytes());
+    }
+}
+
+fn names(alloc: Global, words: &[&str]) -> Result<List<Name>, Memory> {
+    let mut made = List::new(alloc);
+    for word in words {
+        made.push(name(alloc, word)?)?;
+    }
+    Ok(made)
+}
+
+// The plan of one step, of this action with these arguments.
+fn plan(alloc: Global, action: &str, args: &[&str]) -> Result<Plan, Memory> {
+    let args = names(alloc, args)?;
+    let action = name(alloc, action)?;
+    Ok(Plan {
+        steps: list(alloc, [Step { action, args }])?,
+    })
+}
+
+const FAULTS: [(&str, &[&str], Option<BackError>); 4] = [
+    ("move", &["rooma", "roomb"], None),
+    ("move", &["rooma"], Some(BackError::Arity { step: 1 })),
+    ("move", &[], Some(BackError::Arity { step: 1 })),
+    (
+        "fly",
+        &["rooma"],
+        Some(BackError::UnknownAction { step: 1 }),
+    ),
+];
+
+#[test]
+fn steps_are_converted(rt: HostRuntime) {
+    let alloc = rt.alloc();
+    let map = map(alloc).expect(&rt, "a map");
+    for (action, args, want) in FAULTS {
+        let plan = plan(alloc, action, args).expect(&rt, "a plan");
+        let made = converted(alloc, &map, &plan);
+        assert_eq!(rt; made.err(), want);
     }
 }
