@@ -1,0 +1,18 @@
+//! States of planning problems, and what conditions and metrics are in them.
+#![tactic(auto)]
+
+mod error;
+mod ground;
+mod metric;
+mod number;
+mod plain;
+mod scope;
+mod state;
+mod table;
+mod truth;
+mod value;
+
+pub use error::{TooLarge, TruthError};
+pub use metric::Value;
+pub use state::State;
+pub use up_tree::Truth;
