@@ -1,0 +1,13 @@
+//! Tests of reading, of written texts and of states: which problem two texts read as, the texts that are
+//! written of a problem, and what holds where it begins. A crate's tests are proved together with the whole crate, so
+//! these stand apart from the reader, the writer and the evaluator that they run.
+#![tactic(auto)]
+
+#[cfg(test)]
+mod reading;
+#[cfg(test)]
+mod states;
+#[cfg(test)]
+mod writing;
+#[cfg(test)]
+mod written_texts;
