@@ -48,10 +48,10 @@ pub read_stops : (domain problem engine : List ℕ) (a : Answer) → StopsRead d
 read_stops domain problem engine (answer.Features kind) stops = absurd stops
 read_stops domain problem engine (answer.Chain chain) stops = absurd stops
 read_stops domain problem engine (answer.Actions count) stops = absurd stops
-read_stops domain problem engine (answer.Refused file place reason name) stops = stops
+read_stops domain problem engine (answer.Refused file place reason name) stops = record { early = tt; says = stops }
 read_stops domain problem engine (answer.Unread error) stops = absurd stops
 read_stops domain problem engine (answer.Stopped stop.Usage) stops = absurd stops
-read_stops domain problem engine (answer.Stopped stop.Memory) stops = tt
+read_stops domain problem engine (answer.Stopped stop.Memory) stops = record { early = tt; says = tt }
 read_stops domain problem engine (answer.Stopped (stop.Missing at)) stops = absurd stops
 read_stops domain problem engine (answer.Stopped (stop.ReadFault at)) stops = absurd stops
 read_stops domain problem engine (answer.Stopped (stop.WriteFault at)) stops = absurd stops
@@ -63,18 +63,18 @@ choice_stops domain problem engine parts (answer.Features kind) forms stops = ab
 choice_stops domain problem engine parts (answer.Chain chain) forms stops = absurd stops
 choice_stops domain problem engine parts (answer.Actions count) forms stops = absurd stops
 choice_stops domain problem engine parts (answer.Refused file place reason name) forms stops = absurd stops
-choice_stops domain problem engine parts (answer.Unread unread.Memory) forms stops = tt
-choice_stops domain problem engine parts (answer.Unread unread.Toml) forms stops = record { forms = forms; says = stops }
-choice_stops domain problem engine parts (answer.Unread (unread.UnknownKey word)) forms stops = record { forms = forms; says = stops }
-choice_stops domain problem engine parts (answer.Unread (unread.NoKey word)) forms stops = record { forms = forms; says = stops }
-choice_stops domain problem engine parts (answer.Unread (unread.WrongType word)) forms stops = record { forms = forms; says = stops }
-choice_stops domain problem engine parts (answer.Unread (unread.UnknownFeature word)) forms stops = record { forms = forms; says = stops }
+choice_stops domain problem engine parts (answer.Unread unread.Memory) forms stops = record { early = tt; says = tt }
+choice_stops domain problem engine parts (answer.Unread unread.Toml) forms stops = record { early = tt; says = record { forms = forms; says = stops } }
+choice_stops domain problem engine parts (answer.Unread (unread.UnknownKey word)) forms stops = record { early = tt; says = record { forms = forms; says = stops } }
+choice_stops domain problem engine parts (answer.Unread (unread.NoKey word)) forms stops = record { early = tt; says = record { forms = forms; says = stops } }
+choice_stops domain problem engine parts (answer.Unread (unread.WrongType word)) forms stops = record { early = tt; says = record { forms = forms; says = stops } }
+choice_stops domain problem engine parts (answer.Unread (unread.UnknownFeature word)) forms stops = record { early = tt; says = record { forms = forms; says = stops } }
 choice_stops domain problem engine parts (answer.Stopped stop.Usage) forms stops = absurd stops
-choice_stops domain problem engine parts (answer.Stopped stop.Memory) forms stops = tt
+choice_stops domain problem engine parts (answer.Stopped stop.Memory) forms stops = record { early = tt; says = tt }
 choice_stops domain problem engine parts (answer.Stopped (stop.Missing at)) forms stops = absurd stops
 choice_stops domain problem engine parts (answer.Stopped (stop.ReadFault at)) forms stops = absurd stops
 choice_stops domain problem engine parts (answer.Stopped (stop.WriteFault at)) forms stops = absurd stops
-choice_stops domain problem engine parts (answer.Stopped stop.NoPipeline) forms stops = record { forms = forms; parts = parts; none = stops }
+choice_stops domain problem engine parts (answer.Stopped stop.NoPipeline) forms stops = record { early = tt; says = record { forms = forms; parts = parts; none = stops } }
 choice_stops domain problem engine parts (answer.Stopped (stop.InputTooLarge at)) forms stops = absurd stops
 
 -- ---- the same of results that are handed on
@@ -97,9 +97,9 @@ pub ruleset stops = (read_stops, chain_result, stops_result, forms_result)
 
 -- the status of a stop before the writes
 pub before_refusal : (domain problem engine : List ℕ) (a : Answer) → StopsBefore domain problem engine a → IsRefusal (status_of a)
-before_refusal domain problem engine (answer.Features kind) stops = absurd stops
-before_refusal domain problem engine (answer.Chain chain) stops = absurd stops
-before_refusal domain problem engine (answer.Actions count) stops = absurd stops
+before_refusal domain problem engine (answer.Features kind) stops = absurd stops.early
+before_refusal domain problem engine (answer.Chain chain) stops = absurd stops.early
+before_refusal domain problem engine (answer.Actions count) stops = absurd stops.early
 before_refusal domain problem engine (answer.Refused file.Domain place reason name) stops = tt
 before_refusal domain problem engine (answer.Refused file.Problem place reason name) stops = tt
 before_refusal domain problem engine (answer.Unread unread.Memory) stops = tt
@@ -108,13 +108,13 @@ before_refusal domain problem engine (answer.Unread (unread.UnknownKey word)) st
 before_refusal domain problem engine (answer.Unread (unread.NoKey word)) stops = tt
 before_refusal domain problem engine (answer.Unread (unread.WrongType word)) stops = tt
 before_refusal domain problem engine (answer.Unread (unread.UnknownFeature word)) stops = tt
-before_refusal domain problem engine (answer.Stopped stop.Usage) stops = absurd stops
+before_refusal domain problem engine (answer.Stopped stop.Usage) stops = absurd stops.early
 before_refusal domain problem engine (answer.Stopped stop.Memory) stops = tt
-before_refusal domain problem engine (answer.Stopped (stop.Missing at)) stops = absurd stops
-before_refusal domain problem engine (answer.Stopped (stop.ReadFault at)) stops = absurd stops
-before_refusal domain problem engine (answer.Stopped (stop.WriteFault at)) stops = absurd stops
+before_refusal domain problem engine (answer.Stopped (stop.Missing at)) stops = absurd stops.early
+before_refusal domain problem engine (answer.Stopped (stop.ReadFault at)) stops = absurd stops.early
+before_refusal domain problem engine (answer.Stopped (stop.WriteFault at)) stops = absurd stops.early
 before_refusal domain problem engine (answer.Stopped stop.NoPipeline) stops = tt
-before_refusal domain problem engine (answer.Stopped (stop.InputTooLarge at)) stops = absurd stops
+before_refusal domain problem engine (answer.Stopped (stop.InputTooLarge at)) stops = absurd stops.early
 
 -- ---- answers
 
@@ -147,23 +147,23 @@ kind_inputs words domain problem files kind sources = record { sources = sources
 
 tells_refused : (words : List (List ℕ)) (domain problem engine : List ℕ) (files : Files) (a : Answer) → AreInputs words domain problem engine files
     → StopsBefore domain problem engine a → Tells words a files
-tells_refused words domain problem engine files (answer.Features kind) held stops = absurd stops
-tells_refused words domain problem engine files (answer.Chain chain) held stops = absurd stops
-tells_refused words domain problem engine files (answer.Actions count) held stops = absurd stops
-tells_refused words domain problem engine files (answer.Refused file place reason name) held stops = record { domain = domain; problem = problem; engine = engine; held = held; says = stops }
+tells_refused words domain problem engine files (answer.Features kind) held stops = absurd stops.early
+tells_refused words domain problem engine files (answer.Chain chain) held stops = absurd stops.early
+tells_refused words domain problem engine files (answer.Actions count) held stops = absurd stops.early
+tells_refused words domain problem engine files (answer.Refused file place reason name) held stops = record { domain = domain; problem = problem; engine = engine; held = held; says = stops.says }
 tells_refused words domain problem engine files (answer.Unread unread.Memory) held stops = record { domain = domain; problem = problem; engine = engine; held = held; says = tt }
-tells_refused words domain problem engine files (answer.Unread unread.Toml) held stops = record { domain = domain; problem = problem; engine = engine; held = held; says = stops }
-tells_refused words domain problem engine files (answer.Unread (unread.UnknownKey word)) held stops = record { domain = domain; problem = problem; engine = engine; held = held; says = stops }
-tells_refused words domain problem engine files (answer.Unread (unread.NoKey word)) held stops = record { domain = domain; problem = problem; engine = engine; held = held; says = stops }
-tells_refused words domain problem engine files (answer.Unread (unread.WrongType word)) held stops = record { domain = domain; problem = problem; engine = engine; held = held; says = stops }
-tells_refused words domain problem engine files (answer.Unread (unread.UnknownFeature word)) held stops = record { domain = domain; problem = problem; engine = engine; held = held; says = stops }
-tells_refused words domain problem engine files (answer.Stopped stop.Usage) held stops = absurd stops
+tells_refused words domain problem engine files (answer.Unread unread.Toml) held stops = record { domain = domain; problem = problem; engine = engine; held = held; says = stops.says }
+tells_refused words domain problem engine files (answer.Unread (unread.UnknownKey word)) held stops = record { domain = domain; problem = problem; engine = engine; held = held; says = stops.says }
+tells_refused words domain problem engine files (answer.Unread (unread.NoKey word)) held stops = record { domain = domain; problem = problem; engine = engine; held = held; says = stops.says }
+tells_refused words domain problem engine files (answer.Unread (unread.WrongType word)) held stops = record { domain = domain; problem = problem; engine = engine; held = held; says = stops.says }
+tells_refused words domain problem engine files (answer.Unread (unread.UnknownFeature word)) held stops = record { domain = domain; problem = problem; engine = engine; held = held; says = stops.says }
+tells_refused words domain problem engine files (answer.Stopped stop.Usage) held stops = absurd stops.early
 tells_refused words domain problem engine files (answer.Stopped stop.Memory) held stops = tt
-tells_refused words domain problem engine files (answer.Stopped (stop.Missing at)) held stops = absurd stops
-tells_refused words domain problem engine files (answer.Stopped (stop.ReadFault at)) held stops = absurd stops
-tells_refused words domain problem engine files (answer.Stopped (stop.WriteFault at)) held stops = absurd stops
-tells_refused words domain problem engine files (answer.Stopped stop.NoPipeline) held stops = record { domain = domain; problem = problem; engine = engine; held = held; says = stops }
-tells_refused words domain problem engine files (answer.Stopped (stop.InputTooLarge at)) held stops = absurd stops
+tells_refused words domain problem engine files (answer.Stopped (stop.Missing at)) held stops = absurd stops.early
+tells_refused words domain problem engine files (answer.Stopped (stop.ReadFault at)) held stops = absurd stops.early
+tells_refused words domain problem engine files (answer.Stopped (stop.WriteFault at)) held stops = absurd stops.early
+tells_refused words domain problem engine files (answer.Stopped stop.NoPipeline) held stops = record { domain = domain; problem = problem; engine = engine; held = held; says = stops.says }
+tells_refused words domain problem engine files (answer.Stopped (stop.InputTooLarge at)) held stops = absurd stops.early
 
 -- a command over three texts that ends before it writes
 pub refused_tells : (words : List (List ℕ)) (domain problem engine : List ℕ) (held : Option Files) (a : Answer) → IfSome held (AreInputs words domain problem engine)
@@ -236,7 +236,7 @@ pub refused_compiles : (words : List (List ℕ)) (domain problem engine : List �
     → CompilesAt words old new a
 refused_compiles words domain problem engine old new (answer.Features kind) stops = tt
 refused_compiles words domain problem engine old new (answer.Chain chain) stops = tt
-refused_compiles words domain problem engine old new (answer.Actions count) stops = absurd stops
+refused_compiles words domain problem engine old new (answer.Actions count) stops = absurd stops.early
 refused_compiles words domain problem engine old new (answer.Refused file place reason name) stops = tt
 refused_compiles words domain problem engine old new (answer.Unread error) stops = tt
 refused_compiles words domain problem engine old new (answer.Stopped s) stops = tt

@@ -82,7 +82,7 @@ pub record SaysOfHeld (words : List (List ℕ)) (answer : Answer) (files : Files
   pub problem : List ℕ
   pub engine : List ℕ
   pub held : AreInputs words domain problem engine files
-  pub says : Says answer domain problem engine
+  pub says : Says a domain problem engine
 
 -- An answer holds of the held texts, but for one at which the run stops before it has read them all.
 abbrev pub Tells : List (List ℕ) → Answer → Files → Type 0
@@ -107,11 +107,14 @@ StopsChoice engine problem (answer.Stopped stop.NoPipeline) = NoChain engine pro
 StopsChoice engine problem (answer.Stopped stop.Memory) = ⊤
 StopsChoice engine problem answer = ⊥
 
--- the answers at which a command over three texts ends before it writes
-abbrev pub StopsBefore : List ℕ → List ℕ → List ℕ → Answer → Type 0
-StopsBefore domain problem engine (answer.Refused file place reason name) = FirstFault domain problem (read.Refused file place reason name)
-StopsBefore domain problem engine (answer.Unread unread.Memory) = ⊤
-StopsBefore domain problem engine (answer.Unread error) = HasNoEngine domain problem engine (Err error)
-StopsBefore domain problem engine (answer.Stopped stop.NoPipeline) = HasNoChain domain problem engine
-StopsBefore domain problem engine (answer.Stopped stop.Memory) = ⊤
-StopsBefore domain problem engine answer = ⊥
+abbrev pub IsEarly : Answer → Type 0
+IsEarly (answer.Refused file place reason name) = ⊤
+IsEarly (answer.Unread error) = ⊤
+IsEarly (answer.Stopped stop.NoPipeline) = ⊤
+IsEarly (answer.Stopped stop.Memory) = ⊤
+IsEarly answer = ⊥
+
+-- a command over three texts ends before it writes, and says why
+pub record StopsBefore (domain problem engine : List ℕ) (a : Answer) : Type 0 where
+  pub early : IsEarly a
+  pub says : Says a domain problem engine
