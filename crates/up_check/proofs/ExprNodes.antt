@@ -1,5 +1,5 @@
 -- What the definitions say of a raw expression as code takes it apart.
-use Rattle.std.proofs.Common.{◌≡◌, ℕ, List, [], ◌∷◌, map, refl, ap, sym, ◌∙◌}
+use Rattle.std.proofs.Common.{◌≡◌, List, [], ◌∷◌, map, refl, ap, ◌∙◌}
 use Rattle.up_frac.specs.declared.frac.Frac.{Frac}
 use Rattle.up_text.specs.declared.place.Place.{Place}
 use Rattle.pddl_lex.specs.Verdicts.{fine, faulty, over, all}
@@ -8,7 +8,7 @@ use Rattle.pddl_parse.specs.declared.raw.Operator.{Operator}
 use Rattle.pddl_parse.specs.declared.raw.RawTerm.{RawTerm, Row_of-RawTerm, end_of-RawTerm, more_of-RawTerm, items-the_row-RawTerm, items_hidden-the_row-RawTerm-0}
 use Rattle.pddl_parse.specs.declared.raw.RawTerm as form
 use Rattle.pddl_parse.specs.declared.raw.RawTerm.TheBlock.{hidden-the_row-RawTerm-0}
-use Rattle.up_tree.specs.declared.expr.Expr.{Expr, Number, Fluent}
+use Rattle.up_tree.specs.declared.expr.Expr.{Number, Fluent}
 use Rattle.up_check.specs.declared.names.Names.{Names}
 use Rattle.up_check.specs.declared.term.Setting.{Setting}
 use Rattle.up_check.specs.Exprs.{no_number, numeric_function, bare_name, arithmetic, expr, exprs}

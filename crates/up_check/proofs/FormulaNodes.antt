@@ -1,5 +1,5 @@
 -- What the definitions say of a raw condition as code takes it apart.
-use Rattle.std.proofs.Common.{◌≡◌, ℕ, Bool, true, false, List, [], ◌∷◌, map, Option, refl, ap, sym, ◌∙◌}
+use Rattle.std.proofs.Common.{◌≡◌, true, false, List, ◌∷◌, map, refl, ap, ◌∙◌}
 use Rattle.up_frac.specs.declared.frac.Frac.{Frac}
 use Rattle.up_text.specs.declared.place.Place.{Place}
 use Rattle.pddl_lex.specs.Verdicts.{over, over_two, all}

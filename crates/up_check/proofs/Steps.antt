@@ -1,8 +1,8 @@
 -- Where a walk goes on and where it stops.
-use Rattle.std.proofs.Common.{◌≡◌, ℕ, ◌+◌, ◌<◌, ◌≤◌, ◌==◌, length, List, [], ◌∷◌, ◌++◌, map, take, drop, get_or, Option, Some, None, refl, ap, sym, ◌∙◌, append_assoc}
+use Rattle.std.proofs.Common.{◌≡◌, ℕ, ◌+◌, ◌<◌, ◌≤◌, ◌==◌, length, List, [], ◌∷◌, ◌++◌, map, drop, get_or, Option, Some, refl, ap, sym, ◌∙◌, append_assoc}
 use Rattle.std.proofs.lemmas.List.{drop_more, drop_all, append-nil, length-map}
 use Rattle.std.specs.Prelude.{Result, Ok, Err, IfErr, IsErrAnd}
-use Rattle.pddl_lex.specs.Verdicts.{Verdict, fine, faulty, faults, first, over, over_two, all, behind, before}
+use Rattle.pddl_lex.specs.Verdicts.{Verdict, fine, faulty, first, over, over_two, all, before}
 use Rattle.up_text.specs.declared.name.Name.{Name}
 use Rattle.up_text.specs.declared.place.Place.{Place}
 use Rattle.up_tree.specs.declared.term.Term.{Term}
@@ -10,7 +10,7 @@ use Rattle.up_check.specs.declared.fault.Fault.{Fault}
 use Rattle.up_check.specs.declared.fault.Fault.TheVariants.{Memory}
 use Rattle.up_check.specs.declared.reason.Reason.TheVariants.{Arity}
 use Rattle.up_check.specs.Named.{at}
-use Rattle.up_check.specs.Terms.{each_due, arguments, applied}
+use Rattle.up_check.specs.Terms.{each_due, applied}
 use Rattle.up_check.specs.Walks.{Checked, after, unless}
 
 pub first_over : {F A B : Type 0} (g : A → B) (v : Verdict F A) → first (over g v) ≡ first v

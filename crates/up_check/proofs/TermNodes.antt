@@ -1,5 +1,5 @@
 -- What the definitions say of a raw term as code takes it apart.
-use Rattle.std.proofs.Common.{◌≡◌, ℕ, List, [], ◌∷◌, map, Option, Some, refl, ap, sym, ◌∙◌}
+use Rattle.std.proofs.Common.{◌≡◌, List, [], ◌∷◌, map, Option, Some, refl, ap, ◌∙◌}
 use Rattle.up_text.specs.declared.name.Name.{Name}
 use Rattle.up_text.specs.declared.place.Place.{Place}
 use Rattle.up_frac.specs.declared.frac.Frac.{Frac}
@@ -9,7 +9,7 @@ use Rattle.pddl_parse.specs.declared.raw.Operator.{Operator}
 use Rattle.pddl_parse.specs.declared.raw.RawTerm.{RawTerm, Row_of-RawTerm, end_of-RawTerm, more_of-RawTerm, items-the_row-RawTerm, items_hidden-the_row-RawTerm-0}
 use Rattle.pddl_parse.specs.declared.raw.RawTerm as form
 use Rattle.pddl_parse.specs.declared.raw.RawTerm.TheBlock.{hidden-the_row-RawTerm-0}
-use Rattle.up_tree.specs.declared.term.Term.{Term, Var, Object, Fluent}
+use Rattle.up_tree.specs.declared.term.Term.{Var, Object, Fluent}
 use Rattle.up_check.specs.declared.fault.Fault.{Fault}
 use Rattle.up_check.specs.declared.names.Names.{Names}
 use Rattle.up_check.specs.declared.reason.Reason.TheVariants.{TypeMismatch}

@@ -1,6 +1,6 @@
 -- Zero as a fraction, which is never too large.
-use Rattle.std.proofs.Common.{◌≡◌, ℕ, ◌≤◌, ◌^◌, inl, inr, refl, ap, arith}
-use Rattle.std.specs.Prelude.{◌≢◌, ◌↔◌, ◌⊎◌, Result, Err, IsErrOf, pos, nat_abs}
+use Rattle.std.proofs.Common.{◌≡◌, inl, inr, refl, ap, arith}
+use Rattle.std.specs.Prelude.{◌≢◌, ◌↔◌, Result, Err, IsErrOf, pos, nat_abs}
 use Rattle.up_frac.specs.declared.frac_error.FracError.{FracError}
 use Rattle.up_frac.specs.declared.frac_error.FracError.TheVariants.{ZeroDivisor, TooLarge}
 use Rattle.up_frac.specs.declared.frac.Frac.{Frac}

@@ -1,5 +1,5 @@
 -- Conditions of raw conditions.
-use Rattle.std.specs.Prelude.{ℕ, Bool, true, false, not as negated, if◌then◌else◌, List, [], ◌∷◌, length, map, drop, Option, Some, None}
+use Rattle.std.specs.Prelude.{Bool, true, false, not as negated, if◌then◌else◌, List, [], ◌∷◌, length, map, drop, Option, Some, None}
 use Rattle.up_text.specs.declared.name.Name.{Name}
 use Rattle.up_text.specs.declared.place.Place.{Place}
 use Rattle.pddl_lex.specs.Verdicts.{fine, faulty, over, over_two, all}

@@ -1,4 +1,3 @@
-use Rattle.std.proofs.Common.{◌≡◌, ℕ}
 use Rattle.up_check.proofs.expr.+halved.Given as goal
 
 abbrev pub decreases-halved : goal.decreases-halved
