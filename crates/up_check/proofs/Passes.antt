@@ -1,5 +1,5 @@
 -- What the passes find, from what their calls answer.
-use Rattle.std.proofs.Common.{◌≡◌, ℕ, List, [], Option, Some, refl, ◌∙◌}
+use Rattle.std.proofs.Common.{◌≡◌, ℕ, List, [], Some}
 use Rattle.std.specs.Prelude.{Result, Ok, Err, IfErr, OnOk}
 use Rattle.pddl_lex.specs.declared.error.LexError.{LexError}
 use Rattle.pddl_lex.specs.declared.error.LexError.TheVariants as lex

@@ -1,5 +1,5 @@
 -- Faults, and the name of the type above all others.
-use Rattle.std.specs.Prelude.{ℕ, Bool, List, codes, Option, Some, None, bytes_eq}
+use Rattle.std.specs.Prelude.{ℕ, Bool, List, codes, Some, None, bytes_eq}
 use Rattle.up_text.specs.declared.name.Name.{Name}
 use Rattle.up_text.specs.declared.place.Place.{Place}
 use Rattle.up_check.specs.declared.fault.Fault.{Fault}

@@ -1,5 +1,5 @@
 -- The refusals that faults of a text become.
-use Rattle.std.specs.Prelude.{Option, None}
+use Rattle.std.specs.Prelude.{None}
 use Rattle.up_text.specs.declared.place.Place.{Place}
 use Rattle.pddl_lex.specs.declared.error.LexError.{LexError}
 use Rattle.pddl_lex.specs.declared.error.LexError.TheVariants as lex

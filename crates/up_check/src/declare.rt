@@ -1,3 +1,8 @@
+ghost use Rattle.std.specs.Prelude.{◌≡◌, [], ◌∷◌, IfOk, IfErr};
+ghost use Rattle.up_check.specs.Lookups.{is_type};
+ghost use Rattle.up_check.specs.Named.{at};
+ghost use Rattle.up_check.specs.Walks.{unless};
+
 use crate::fault::{Fault, named};
 use crate::names::{Names, Signature, object};
 use crate::reason::Reason;
@@ -59,7 +64,11 @@ fn add_object(alloc: Global, names: &mut Names, name: &Name, of: &Name) -> Resul
 }
 
 /// Answers `UnknownName` at a type that isn't declared.
-pub fn check_type(alloc: Global, names: &Names, of: &Ident) -> Result<(), Fault> {
+pub fn check_type(alloc: Global, names: &Names, of: &Ident) -> Result<(), Fault>
+    ensures ok { IfOk result (λ _. unless (is_type names.now of.now.name) (at of.now.place Reason.UnknownName of.now.name) ≡ []) }
+    ensures err { IfErr result (λ fault. ¬ (fault ≡ Fault.Memory) →
+        unless (is_type names.now of.now.name) (at of.now.place Reason.UnknownName of.now.name) ≡ fault ∷ []) }
+{
     if names.is_type(&of.name) {
         Ok(())
     } else {

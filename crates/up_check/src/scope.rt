@@ -1,3 +1,8 @@
+ghost use Rattle.std.specs.Prelude.{◌≡◌, ◌∷◌, [], ◌++◌, Some, None, IfOk, IfErr, OnOk, length, map, take, drop};
+ghost use Rattle.std.specs.Option.{option_copied};
+ghost use Rattle.pddl_lex.specs.Verdicts.{fine, first};
+ghost use Rattle.up_check.specs.Scopes.{variables, barred, variable_type, barred_to, is_taken, entered, entered_groups, type_named, type_fault, typed};
+
 use crate::declare::check_type;
 use crate::fault::{Fault, named};
 use crate::names::{Names, object};
@@ -26,14 +31,19 @@ pub struct Scope {
 }
 
 // The type that is stated, or `object`.
-fn type_named(alloc: Global, of: &Option<Ident>) -> Result<Name, Memory> {
+fn type_named(alloc: Global, of: &Option<Ident>) -> Result<Name, Memory>
+    ensures { IfOk result (λ name. name ≡ type_named of.now) }
+{
     match of {
         None => object(alloc),
         Some(of) => of.name.copy(alloc),
     }
 }
 
-fn known_type(alloc: Global, names: &Names, of: &Option<Ident>) -> Result<(), Fault> {
+fn known_type(alloc: Global, names: &Names, of: &Option<Ident>) -> Result<(), Fault>
+    ensures ok { IfOk result (λ _. type_fault names.now of.now ≡ []) }
+    ensures err { IfErr result (λ fault. ¬ (fault ≡ Fault.Memory) → type_fault names.now of.now ≡ fault ∷ []) }
+{
     match of {
         None => Ok(()),
         Some(of) => check_type(alloc, names, of),
@@ -41,7 +51,10 @@ fn known_type(alloc: Global, names: &Names, of: &Option<Ident>) -> Result<(), Fa
 }
 
 impl Scope {
-    pub fn new(alloc: Global) -> Scope {
+    pub fn new(alloc: Global) -> Scope
+        ensures variables { variables result ≡ [] }
+        ensures barred { barred result ≡ [] }
+    {
         Scope {
             types: IndexMap::new(alloc),
             barred: IndexSet::new(alloc),
@@ -49,12 +62,16 @@ impl Scope {
     }
 
     /// The type of a variable in scope.
-    pub fn type_of(&self, variable: &Name) -> Option<&Name> {
+    pub fn type_of(&self, variable: &Name) -> Option<&Name>
+        ensures { option_copied result ≡ variable_type (variables self.now) variable.now }
+    {
         self.types.get(variable)
     }
 
     /// How many variables are in scope.
-    pub fn len(&self) -> usize {
+    pub fn len(&self) -> usize
+        ensures { result ≡ length (variables self.now) }
+    {
         self.types.len()
     }
 
@@ -68,9 +85,14 @@ impl Scope {
         names: &Names,
         binder: Binder,
         groups: &[RawGroup],
-    ) -> Result<(), Fault> {
+    ) -> Result<(), Fault>
+        ensures ok { OnOk result (entered_groups names.now (barred_to binder (barred self.old)) groups.now (variables self.old) ≡ fine (variables self.new)) }
+        ensures err { IfErr result (λ fault. ¬ (fault ≡ Fault.Memory) →
+            first (entered_groups names.now (barred_to binder (barred self.old)) groups.now (variables self.old)) ≡ Some fault) }
+        ensures barred { barred self.new ≡ barred self.old }
+    {
         for group in groups {
-            self.enter_group(alloc, binder, group)?;
+            self.enter_group(alloc, binder, &group.of, group.names.as_slice())?;
             known_type(alloc, names, &group.of)?;
         }
         Ok(())
@@ -80,42 +102,61 @@ impl Scope {
         &mut self,
         alloc: Global,
         binder: Binder,
-        group: &RawGroup,
-    ) -> Result<(), Fault> {
-        for variable in group.names.as_slice() {
+        of: &Option<Ident>,
+        group: &[Ident],
+    ) -> Result<(), Fault>
+        ensures ok { OnOk result (entered (barred_to binder (barred self.old)) (type_named of.now) group.now (variables self.old) ≡ fine (variables self.new)) }
+        ensures err { IfErr result (λ fault. ¬ (fault ≡ Fault.Memory) →
+            first (entered (barred_to binder (barred self.old)) (type_named of.now) group.now (variables self.old)) ≡ Some fault) }
+        ensures barred { barred self.new ≡ barred self.old }
+    {
+        for variable in group {
             if self.is_taken(binder, &variable.name) {
                 return Err(named(alloc, variable.place, Reason::Duplicate, &variable.name));
             }
-            self.add(variable.name.copy(alloc)?, type_named(alloc, &group.of)?)?;
+            self.add(variable.name.copy(alloc)?, type_named(alloc, of)?)?;
         }
         Ok(())
     }
 
-    fn is_taken(&self, binder: Binder, variable: &Name) -> bool {
+    #[tactic(auto, using(crate::proofs::Entering::entering))]
+    fn is_taken(&self, binder: Binder, variable: &Name) -> bool
+        ensures { result ≡ is_taken (barred_to binder (barred self.now)) (variables self.now) variable.now }
+    {
         match binder {
             Binder::Plain => self.types.contains_key(variable),
             Binder::Effect => self.types.contains_key(variable) || self.barred.contains(variable),
         }
     }
 
-    fn add(&mut self, variable: Name, of: Name) -> Result<(), Memory> {
+    #[tactic(auto, using(crate::proofs::Entering::entering))]
+    fn add(&mut self, variable: Name, of: Name) -> Result<(), Memory>
+        ensures ok { OnOk result (variable_type (variables self.old) variable ≡ None → variables self.new ≡ variables self.old ++ (variable, of) ∷ []) }
+        ensures barred { barred self.new ≡ barred self.old }
+    {
         self.types.insert(variable, of)?;
         Ok(())
     }
 
     /// The variables but the outermost `from`.
-    pub fn since(&self, alloc: Global, from: usize) -> Result<List<Typed>, Memory> {
+    pub fn since(&self, alloc: Global, from: usize) -> Result<List<Typed>, Memory>
+        ensures { IfOk result (λ vars. vars ≡ map typed (drop from (variables self.now))) }
+    {
         let mut variables = List::new(alloc);
         for at in from..self.types.len() {
-            if let Some((name, of)) = self.types.get_index(at) {
-                variables.push(typed(alloc, name, of)?)?;
-            }
+            let Some((name, of)) = self.types.get_index(at) else {
+                return Ok(variables);
+            };
+            variables.push(typed(alloc, name, of)?)?;
         }
         Ok(variables)
     }
 
     /// Takes all variables out of scope but the outermost `len`.
-    pub fn leave(&mut self, len: usize) {
+    pub fn leave(&mut self, len: usize)
+        ensures variables { variables self.new ≡ take len (variables self.old) }
+        ensures barred { barred self.new ≡ barred self.old }
+    {
         self.types.truncate(len);
     }
 
@@ -163,7 +204,9 @@ impl Scope {
     }
 }
 
-fn typed(alloc: Global, name: &Name, of: &Name) -> Result<Typed, Memory> {
+fn typed(alloc: Global, name: &Name, of: &Name) -> Result<Typed, Memory>
+    ensures { IfOk result (λ variable. variable ≡ typed (name.now, of.now)) }
+{
     Ok(Typed {
         name: name.copy(alloc)?,
         of: of.copy(alloc)?,

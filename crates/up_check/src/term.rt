@@ -1,3 +1,12 @@
+ghost use Rattle.std.specs.Prelude.{◌≡◌, ◌==◌, [], ◌∷◌, ◌++◌, Some, IfOk, IfErr, map, length};
+ghost use Rattle.std.specs.Option.{option_copied};
+ghost use Rattle.pddl_lex.specs.Verdicts.{fine, first, all};
+ghost use Rattle.up_check.specs.Lookups.{type_of, function_of, fits};
+ghost use Rattle.up_check.specs.Named.{at};
+ghost use Rattle.up_check.specs.Scopes.{variables, variable_type};
+ghost use Rattle.up_check.specs.Terms.{of_type, unadmitted, object_function, each_due, term};
+ghost use Rattle.up_check.specs.Walks.{unless};
+
 use crate::fault::{Fault, bare, named};
 use crate::names::Names;
 use crate::reason::Reason;
@@ -19,7 +28,9 @@ pub enum Setting {
 }
 
 // A type is due or below it; where none is due any type fits.
-fn fits(names: &Names, of: &Name, due: Option<&Name>) -> bool {
+fn fits(names: &Names, of: &Name, due: Option<&Name>) -> bool
+    ensures { result ≡ fits names.now of.now (option_copied due.entry) }
+{
     match due {
         None => true,
         Some(due) => names.is_under(of, due),
@@ -33,7 +44,11 @@ pub fn same_count(
     name: &Name,
     declared: &[Name],
     args: &[RawTerm],
-) -> Result<(), Fault> {
+) -> Result<(), Fault>
+    ensures ok { IfOk result (λ _. unless (length args.now == length declared.now) (at place Reason.Arity name.now) ≡ []) }
+    ensures err { IfErr result (λ fault. ¬ (fault ≡ Fault.Memory) →
+        unless (length args.now == length declared.now) (at place Reason.Arity name.now) ≡ fault ∷ []) }
+{
     if args.len() == declared.len() {
         Ok(())
     } else {
@@ -41,7 +56,12 @@ pub fn same_count(
     }
 }
 
-fn object(alloc: Global, names: &Names, it: &Ident, due: Option<&Name>) -> Result<Term, Fault> {
+#[tactic(auto, using(crate::proofs::Steps::steps))]
+fn object(alloc: Global, names: &Names, it: &Ident, due: Option<&Name>) -> Result<Term, Fault>
+    ensures ok { IfOk result (λ made. of_type names.now it.now (Term.Object it.now.name) (option_copied due.entry) (type_of names.now it.now.name) ≡ fine made) }
+    ensures err { IfErr result (λ fault. ¬ (fault ≡ Fault.Memory) →
+        first (of_type names.now it.now (Term.Object it.now.name) (option_copied due.entry) (type_of names.now it.now.name)) ≡ Some fault) }
+{
     let Some(of) = names.type_of(&it.name) else {
         return Err(named(alloc, it.place, Reason::UnknownName, &it.name));
     };
@@ -51,13 +71,19 @@ fn object(alloc: Global, names: &Names, it: &Ident, due: Option<&Name>) -> Resul
     Ok(Term::Object(it.name.copy(alloc)?))
 }
 
+#[tactic(auto, using(crate::proofs::Steps::steps))]
 fn variable(
     alloc: Global,
     names: &Names,
     scope: &Scope,
     it: &Ident,
     due: Option<&Name>,
-) -> Result<Term, Fault> {
+) -> Result<Term, Fault>
+    ensures ok { IfOk result (λ made.
+        of_type names.now it.now (Term.Var it.now.name) (option_copied due.entry) (variable_type (variables scope.now) it.now.name) ≡ fine made) }
+    ensures err { IfErr result (λ fault. ¬ (fault ≡ Fault.Memory) →
+        first (of_type names.now it.now (Term.Var it.now.name) (option_copied due.entry) (variable_type (variables scope.now) it.now.name)) ≡ Some fault) }
+{
     let Some(of) = scope.type_of(&it.name) else {
         return Err(named(alloc, it.place, Reason::UnknownName, &it.name));
     };
@@ -68,7 +94,10 @@ fn variable(
 }
 
 // Refuses the bracket of an object function where none may stand.
-fn admitted(alloc: Global, setting: Setting, place: Place, function: &Name) -> Result<(), Fault> {
+fn admitted(alloc: Global, setting: Setting, place: Place, function: &Name) -> Result<(), Fault>
+    ensures ok { IfOk result (λ _. unadmitted setting place function.now ≡ []) }
+    ensures err { IfErr result (λ fault. ¬ (fault ≡ Fault.Memory) → unadmitted setting place function.now ≡ fault ∷ []) }
+{
     match setting {
         Setting::Plain => Ok(()),
         Setting::Constraint => Err(bare(place, Reason::LeftOut)),
@@ -82,6 +111,7 @@ fn admitted(alloc: Global, setting: Setting, place: Place, function: &Name) -> R
 /// arguments the faults come in this order: that of its name, `LeftOut` or `MetricTerm` at its bracket where none may stand,
 /// `TypeMismatch` there by what it gives, `Arity` there, and those of its arguments.
 #[cycle(term)]
+#[tactic(auto, using(crate::proofs::TermNodes::term_nodes, crate::proofs::Steps::steps))]
 pub fn checked_term(
     alloc: Global,
     names: &Names,
@@ -89,7 +119,11 @@ pub fn checked_term(
     setting: Setting,
     raw: &RawTerm,
     due: Option<&Name>,
-) -> Result<Term, Fault> {
+) -> Result<Term, Fault>
+    ensures ok { IfOk result (λ made. term names.now (variables scope.now) setting raw.now (option_copied due.entry) ≡ fine made) }
+    ensures err { IfErr result (λ fault. ¬ (fault ≡ Fault.Memory) →
+        first (term names.now (variables scope.now) setting raw.now (option_copied due.entry)) ≡ Some fault) }
+{
     match raw {
         RawTerm::Name(it) => object(alloc, names, it, due),
         RawTerm::Variable(it) => variable(alloc, names, scope, it, due),
@@ -106,6 +140,7 @@ pub fn checked_term(
 }
 
 // The types of the arguments of an object function that may stand at the place.
+#[tactic(auto, using(crate::proofs::Steps::steps))]
 fn object_function<'n>(
     alloc: Global,
     names: &'n Names,
@@ -113,7 +148,11 @@ fn object_function<'n>(
     place: Place,
     f: &Ident,
     due: Option<&Name>,
-) -> Result<&'n [Name], Fault> {
+) -> Result<&'n [Name], Fault>
+    ensures ok { IfOk result (λ args. object_function names.now setting place f.now (option_copied due.entry) (function_of names.now f.now.name) ≡ fine args.now) }
+    ensures err { IfErr result (λ fault. ¬ (fault ≡ Fault.Memory) →
+        first (object_function names.now setting place f.now (option_copied due.entry) (function_of names.now f.now.name)) ≡ Some fault) }
+{
     let Some(function) = names.function(&f.name) else {
         return Err(named(alloc, f.place, Reason::UnknownName, &f.name));
     };
@@ -129,6 +168,7 @@ fn object_function<'n>(
 
 /// Arguments, as many as there are declared types, each of its type.
 #[cycle(term)]
+#[tactic(auto, using(crate::proofs::Steps::steps))]
 pub fn checked_terms(
     alloc: Global,
     names: &Names,
@@ -136,7 +176,11 @@ pub fn checked_terms(
     setting: Setting,
     declared: &[Name],
     args: &[RawTerm],
-) -> Result<List<Term>, Fault> {
+) -> Result<List<Term>, Fault>
+    ensures ok { IfOk result (λ made. all (each_due declared.now (map (term names.now (variables scope.now) setting) args.now)) ≡ fine made) }
+    ensures err { IfErr result (λ fault. ¬ (fault ≡ Fault.Memory) →
+        first (all (each_due declared.now (map (term names.now (variables scope.now) setting) args.now))) ≡ Some fault) }
+{
     let mut made = List::new(alloc);
     let mut types = declared;
     for arg in args {

@@ -1,0 +1,12 @@
+use Rattle.std.proofs.Common.{◌≡◌, drop}
+use Rattle.up_check.specs.Scopes.{variables, barred, barred_to, entered_groups}
+use Rattle.up_check.proofs.scope.Scope.enter.Given as goal
+
+-- the list is entered from the group that the walk has come to
+abbrev pub invariant-loop-group : goal.invariant-loop-group
+invariant-loop-group l = record {
+  so_far :
+      entered_groups l.names (barred_to l.binder (barred l.fn.self)) l.groups (variables l.fn.self)
+      ≡ entered_groups l.names (barred_to l.binder (barred l.fn.self)) (drop l.group-index l.groups) (variables l.self);
+  same : barred l.self ≡ barred l.fn.self;
+}
