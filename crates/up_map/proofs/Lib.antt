@@ -1,2 +1,9 @@
+pub mod Digits
+pub mod Gathering
 pub mod Kept
+pub mod Laws
+pub mod Lining
+pub mod Numbers
+pub mod Splitting
 pub mod Tables
+pub mod Wording

@@ -1,6 +1,10 @@
+pub mod Entries
 pub mod Named
 pub mod Pieces
+pub mod Reading
 pub mod Rests
+pub mod Spells
+pub mod Splits
 pub mod Texts
 pub mod Unfit
 pub mod Walk

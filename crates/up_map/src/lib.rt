@@ -3,8 +3,14 @@
 
 mod back_error;
 mod converting;
+mod cut;
+mod entry;
+mod law;
 mod map;
+mod map_error;
+mod number;
 mod piecewise;
+mod read;
 mod steps;
 #[cfg(test)]
 mod tests;
@@ -12,6 +18,9 @@ mod write;
 
 pub use back_error::BackError;
 pub use converting::back;
+pub use law::map_text_law;
 pub use map::Map;
+pub use map_error::MapError;
 pub use piecewise::MapPieces;
+pub use read::read_map;
 pub use write::{map_pieces, write_map};

@@ -1,5 +1,5 @@
 use crate::steps::put_entry;
-use crate::{BackError, Map, back as converted, map_pieces, write_map};
+use crate::{BackError, Map, MapError, back as converted, map_pieces, read_map, write_map};
 use std::alloc::Global;
 use up_compiler::{Back, Chain, CompilerId, Entry, Item, Target, identity};
 use up_line::Line;
@@ -178,5 +178,48 @@ fn steps_are_converted(rt: HostRuntime) {
         let plan = plan(alloc, action, args).expect(&rt, "a plan");
         let made = converted(alloc, &map, &plan);
         assert_eq!(rt; made.err(), want);
+    }
+}
+
+const FAULTY: [(&str, MapError); 14] = [
+    ("", MapError::Bad { line: 1 }),
+    ("up-map 2\n", MapError::Bad { line: 1 }),
+    ("up-map 1", MapError::Bad { line: 1 }),
+    ("up-map 1\n", MapError::Bad { line: 2 }),
+    ("up-map 1\nchain \n", MapError::Bad { line: 2 }),
+    ("up-map 1\nchain\n", MapError::Bad { line: 3 }),
+    ("up-map 1\nchain\nend", MapError::Bad { line: 3 }),
+    ("up-map 1\nchain\nend\n\n", MapError::Bad { line: 4 }),
+    (
+        "up-map 1\nchain\naction move 2 keep move $1 $3\nend\n",
+        MapError::Bad { line: 3 },
+    ),
+    (
+        "up-map 1\nchain\naction move 2 keep move $01\nend\n",
+        MapError::Bad { line: 3 },
+    ),
+    (
+        "up-map 1\nchain\naction move 2 keep move $0\nend\n",
+        MapError::Bad { line: 3 },
+    ),
+    (
+        "up-map 1\nchain\naction Move 0 drop\nend\n",
+        MapError::Bad { line: 3 },
+    ),
+    (
+        "up-map 1\nchain\naction move  0 drop\nend\n",
+        MapError::Bad { line: 3 },
+    ),
+    (
+        "up-map 1\nchain\naction move 0 drop\naction move 0 drop\nend\n",
+        MapError::DoubleName { line: 4 },
+    ),
+];
+
+#[test]
+fn faulty_lines_are_named(rt: HostRuntime) {
+    for (text, want) in FAULTY {
+        let fault = read_map(rt.alloc(), text.as_bytes()).err();
+        assert_eq!(rt; fault, Some(want));
     }
 }
