@@ -1,3 +1,4 @@
+use crate::mark::{at_mark, without_mark};
 use crate::refused_texts::{Frame, Row, TABLES};
 use std::alloc::{AllocError, Global};
 use std::process::Abort;
@@ -12,40 +13,6 @@ struct Due<'a> {
     place: Option<Place>,
     word: &'a str,
     name: &'a str,
-}
-
-// The place of the mark.
-fn mark_of(text: &str) -> Option<Place> {
-    let mut place = Place { line: 1, column: 1 };
-    for byte in text.as_bytes() {
-        match *byte {
-            b'@' => return Some(place),
-            byte => place = behind(place, byte),
-        }
-    }
-    None
-}
-
-fn behind(place: Place, byte: u8) -> Place {
-    if byte == b'\n' {
-        Place {
-            line: place.line.saturating_add(1),
-            column: 1,
-        }
-    } else {
-        Place {
-            line: place.line,
-            column: place.column.saturating_add(1),
-        }
-    }
-}
-
-fn without_mark(alloc: Global, text: &str) -> Result<Vec<u8>, AllocError> {
-    text.as_bytes()
-        .iter()
-        .copied()
-        .filter(|byte| *byte != b'@')
-        .collect(alloc)
 }
 
 fn is_name(name: &Option<Name>, text: &str) -> bool {
@@ -89,13 +56,14 @@ fn holds(alloc: Global, frame: &Frame, row: Row) -> Result<bool, AllocError> {
     let (text, word, name) = row;
     let [first, second] = frame.before;
     let marked = format!(in alloc; "{first}{second}{text}{}", frame.behind)?;
+    let marked = marked.as_str().as_bytes();
     let due = Due {
         file: frame.gap,
-        place: mark_of(marked.as_str()),
+        place: at_mark(marked).map(|mark| mark.place),
         word,
         name,
     };
-    let text = without_mark(alloc, marked.as_str())?;
+    let text = without_mark(alloc, marked)?;
     Ok(reads(alloc, text.as_slice(), frame.other, due))
 }
 
