@@ -1,7 +1,11 @@
-//! Tests of reading, of written texts and of states: which problem two texts read as, the texts that are
-//! written of a problem, and what holds where it begins. A crate's tests are proved together with the whole crate, so
-//! these stand apart from the reader, the writer and the evaluator that they run.
+//! What tests look at of a problem, and tests of reading, of written texts and of states: which problem two texts read
+//! as, the texts that are written of a problem, and what holds where it begins. A crate's tests are proved together with
+//! the whole crate, so these stand apart from the reader, the writer and the evaluator that they run.
 #![tactic(auto)]
+
+mod looks;
+
+pub use looks::{Counts, are_names, are_typed, is_name, is_text, is_typed};
 
 #[cfg(test)]
 mod reading;

@@ -1,16 +1,9 @@
+use crate::looks::is_text;
 use crate::written_texts::ROWS;
 use pddl_write::{write_domain, write_problem};
 use std::alloc::Global;
 use up_check::read_problem;
-use up_text::Memory;
 use up_tree::Problem;
-
-fn is_text(text: &Result<Vec<u8>, Memory>, due: &str) -> bool {
-    match text {
-        Ok(text) => text.as_slice() == due.as_bytes(),
-        Err(_) => false,
-    }
-}
 
 fn is_written(alloc: Global, problem: &Problem, due: [&str; 2]) -> bool {
     let [of_domain, of_problem] = due;
