@@ -1,0 +1,4 @@
+pub mod Lists
+pub mod Same
+pub mod Replacing
+pub mod Agreeing
