@@ -302,15 +302,13 @@ wider_depends p s t step symbols within agree = agree_after (λ x. Member x symb
 
 -- ---- the law of plans
 
-found_among : (test : Action → Bool) (P : Action → Type 0) (as : List Action) → IsSomeAnd (find test as) P → Somewhere P as
+found_among : (test : Action → Bool) (P : Action → Type 0) (actions : List Action) → IsSomeAnd (find test actions) P → Somewhere P actions
 found_among test P [] h = h
-found_among test P (a ∷ as) h = by (test a) h
+found_among test P (a ∷ actions) h = by (test a) h (found_among test P actions)
   where
-    more : IsSomeAnd (find test as) P → Somewhere P as
-    more = found_among test P as
-    by : (b : Bool) → IsSomeAnd (cond b (Some a) (find test as)) P → P a ⊎ Somewhere P as
-    by true h = inl h
-    by false h = inr (more h)
+    by : (b : Bool) → IsSomeAnd (cond b (Some a) (find test actions)) P → (IsSomeAnd (find test actions) P → Somewhere P actions) → P a ⊎ Somewhere P actions
+    by true h more = inl h
+    by false h more = inr (more h)
 
 restricted : (P Q : Symbol → Type 0) (s t : State) → ((x : Symbol) → P x → Q x) → AgreeOn Q s t → AgreeOn P s t
 restricted P Q s t within agree = record {

@@ -1,3 +1,4 @@
 pub mod Replaced
 pub mod Symbols
+pub mod Named
 pub mod Laws
