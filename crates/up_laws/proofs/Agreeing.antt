@@ -1,15 +1,11 @@
 -- Terms, expressions and formulas are the same in states that agree on what they name.
-use Rattle.std.proofs.Common.{◌≡◌, ◌⊎◌, ◌↔◌, Bool, true, false, true≢false, List, [], ◌∷◌, map, Option, Some, None, option_map, option_and_then, IsTrue, refl, ap, sym, ◌∙◌, inl, inr, ⊎_elim}
+use Rattle.std.proofs.Common.{◌≡◌, ◌↔◌, Bool, true, false, true≢false, List, [], ◌∷◌, map, Option, Some, None, option_map, option_and_then, IsTrue, refl, ap, sym, ◌∙◌, inl, inr}
 use Rattle.std.specs.FinSet as set
-use Rattle.up_frac.specs.Fraction.{Fraction}
 use Rattle.up_frac.specs.Arithmetic as fraction
 use Rattle.up_text.specs.declared.name.Name.{Name}
-use Rattle.up_text.specs.Lists.{Somewhere}
-use Rattle.up_tree.specs.declared.term.Typed.{Typed}
 use Rattle.up_tree.specs.declared.term.Term.{Term, Var, Object, Fluent', Row_of-Term, end_of-Term, more_of-Term}
 use Rattle.up_tree.specs.declared.expr.Expr.{Expr, Number, Fluent}
 use Rattle.up_tree.specs.declared.formula.Formula.{Formula, And', Or', Atom, Equal, Compare, Row_of-Formula, end_of-Formula, more_of-Formula}
-use Rattle.up_tree.specs.declared.truth.Truth.{Truth}
 use Rattle.up_tree.specs.Nodes.{sum, difference, product, quotient, not, imply, exists, forall}
 use Rattle.up_tree.specs.Objects.{World, Assignment, assign, tuples}
 use Rattle.up_tree.specs.State.{State, ground, number_at, object_at}

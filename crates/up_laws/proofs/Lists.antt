@@ -1,5 +1,5 @@
 -- What is said of each element, through the words that make lists of lists.
-use Rattle.std.proofs.Common.{◌≡◌, ◌⊎◌, ◌↔◌, List, [], ◌∷◌, ◌++◌, map, Option, Some, None, refl, inl, inr, ⊎_elim}
+use Rattle.std.proofs.Common.{◌≡◌, ◌↔◌, List, [], ◌∷◌, ◌++◌, map, Option, Some, None, refl, inl, inr, ⊎_elim}
 use Rattle.std.specs.List.{flat_map, filter_map, cons_option}
 use Rattle.std.specs.Option.{IfSome}
 use Rattle.up_text.specs.Lists.{Every, Somewhere, Member}

@@ -4,7 +4,6 @@ use Rattle.std.specs.Cmp.Lexicographic.{bytes_decides}
 use Rattle.std.specs.List.{list_any}
 use Rattle.up_text.specs.declared.name.Name.{Name}
 use Rattle.up_text.specs.Names.{same_name}
-use Rattle.up_text.specs.Lists.{Somewhere}
 use Rattle.up_tree.specs.declared.term.Term.{Term, Var, Object, Fluent', Row_of-Term, end_of-Term, more_of-Term}
 use Rattle.up_tree.specs.declared.term.Typed.{Typed}
 use Rattle.up_tree.specs.declared.expr.Expr.{Expr, Number, Fluent}
@@ -12,7 +11,7 @@ use Rattle.up_tree.specs.declared.formula.Relation.{Relation}
 use Rattle.up_tree.specs.declared.formula.Formula.{Formula, And, And', Or, Or', Not, Imply, Exists, Forall, Atom, Equal, Compare, Row_of-Formula, end_of-Formula, more_of-Formula, items-the_row-Formula, items_hidden-the_row-Formula-0}
 use Rattle.up_tree.specs.declared.formula.Formula.TheBlock.{hidden-the_row-Formula-0}
 use Rattle.up_tree.specs.Nodes.{built, sum, difference, product, quotient, not, imply, exists, forall}
-use Rattle.up_laws.specs.Symbols.{Symbol, predicate, function, TermNames, ArgumentsName, TermsName, ExprNames, FormulaNames, MembersName}
+use Rattle.up_laws.specs.Symbols.{predicate, function, TermNames, ArgumentsName, TermsName, ExprNames, FormulaNames, MembersName}
 use Rattle.up_laws.specs.Named.{is_named, is_named_in}
 
 -- ---- terms and expressions name no predicate

@@ -1,9 +1,7 @@
 -- A replaced tree is under an assignment what the tree is under the assignment with the replaced variables' objects.
-use Rattle.std.proofs.Common.{◌≡◌, Bool, true, false, ◌||◌, List, [], ◌∷◌, map, Option, Some, None, option_map, option_and_then, refl, ap, sym, ◌∙◌, subst}
+use Rattle.std.proofs.Common.{◌≡◌, Bool, true, false, ◌||◌, List, [], ◌∷◌, map, Option, Some, None, option_map, option_and_then, refl, ap, sym, ◌∙◌}
 use Rattle.std.specs.Prelude.{⊤, if◌then◌else◌}
-use Rattle.std.specs.List.{list_any, flat_map}
 use Rattle.std.specs.Option.{option_or, is_some}
-use Rattle.up_frac.specs.Fraction.{Fraction}
 use Rattle.up_frac.specs.Arithmetic as fraction
 use Rattle.up_text.specs.declared.name.Name.{Name}
 use Rattle.up_text.specs.Names.{same_name}
@@ -12,12 +10,11 @@ use Rattle.up_tree.specs.declared.term.Typed.{Typed}
 use Rattle.up_tree.specs.declared.term.Term.{Term, Var, Object, Fluent', Row_of-Term, end_of-Term, more_of-Term}
 use Rattle.up_tree.specs.declared.expr.Expr.{Expr, Number, Fluent}
 use Rattle.up_tree.specs.declared.formula.Formula.{Formula, And', Or', Atom, Equal, Compare, Row_of-Formula, end_of-Formula, more_of-Formula}
-use Rattle.up_tree.specs.declared.truth.Truth.{Truth}
 use Rattle.up_tree.specs.Nodes.{sum, difference, product, quotient, not, imply, exists, forall}
 use Rattle.up_tree.specs.Objects.{World, Assignment, bind, assign, objects_of, tuples}
 use Rattle.up_tree.specs.State.{State, ground, number_at, object_at}
 use Rattle.up_tree.specs.Value.{with_both, term_value, row_values, values_of, ground_at, number}
-use Rattle.up_tree.specs.Judged.{opposite, both, either, all_of, any_of, atom_truth, equal_truth, compare_truth, truth_of, truths_of}
+use Rattle.up_tree.specs.Judged.{opposite, either, all_of, any_of, atom_truth, equal_truth, compare_truth, truth_of, truths_of}
 use Rattle.up_laws.specs.Replaced.{Replacement, replacement, binds, under, in_place, replaced_term, replaced_row, replaced_expr, replaced, replaced_members}
 use Rattle.up_laws.specs.Laws.{TermsSubstitute, ExprsSubstitute, FormulasSubstitute}
 use Rattle.up_laws.proofs.Lists.{each_as, each_map, each_flat_map, each_member, same_map}

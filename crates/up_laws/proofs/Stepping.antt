@@ -1,7 +1,7 @@
 -- Faults and next states are the same in states that agree on what the action names.
-use Rattle.std.proofs.Common.{◌≡◌, ◌⊎◌, ◌↔◌, ◌≤◌, Bool, true, false, cond, not, ◌&&◌, ◌||◌, List, [], ◌∷◌, map, fold, find, length, Option, Some, None, option_map, option_and_then, IsSomeAnd, refl, ap, sym, ◌∙◌, subst, inl, inr, ⊎_elim}
+use Rattle.std.proofs.Common.{◌≡◌, ◌⊎◌, ◌↔◌, ◌≤◌, Bool, true, false, cond, not, ◌&&◌, ◌||◌, List, [], ◌∷◌, fold, find, length, Option, Some, None, option_map, option_and_then, IsSomeAnd, refl, ap, sym, ◌∙◌, subst, inl, inr}
 use Rattle.std.specs.Prelude.{if◌then◌else◌, IfSome}
-use Rattle.std.specs.List.{list_any, flat_map, filter_map}
+use Rattle.std.specs.List.{list_any, flat_map}
 use Rattle.std.specs.Cmp.{Equal-is}
 use Rattle.std.specs.FinSet as set
 use Rattle.std.specs.FinMap as table
@@ -18,18 +18,17 @@ use Rattle.up_tree.specs.declared.problem.Parts.{Parts}
 use Rattle.up_tree.specs.declared.problem.Step.{Step}
 use Rattle.up_tree.specs.declared.truth.Truth.{Truth}
 use Rattle.up_tree.specs.Objects.{World, world, Assignment, assign, unassigned, tuples, action_named}
-use Rattle.up_tree.specs.State.{State, Ground, ground, ground_cmp, Holds, number_at, object_at}
-use Rattle.up_tree.specs.Value.{term_value, values_of, ground_at, number}
-use Rattle.up_tree.specs.Truth.{True, False, IsUndefined}
+use Rattle.up_tree.specs.State.{State, Ground, ground, ground_cmp, number_at, object_at}
+use Rattle.up_tree.specs.Value.{values_of, ground_at, number}
+use Rattle.up_tree.specs.Truth.{True, IsUndefined}
 use Rattle.up_tree.specs.Judged.{truth_of, is_true}
 use Rattle.up_tree.specs.Instances.{Instance, Fired, action_assignment, row_instances, instances, fired, firing}
 use Rattle.up_tree.specs.Changes.{NumberChange, ObjectChange, added, deleted, number_change, object_change, of_firing, is_at, changes_at, objects_at, new_number, new_object, put, changed}
-use Rattle.up_tree.specs.Faults.{Fault, unknown, arity, argument_type, precondition, condition_undefined, object_undefined, number_undefined, number_conflict, object_conflict, ObjectUndefined, NeedsOld, IsScaleDown, IsShift, NumberUndefined, NumbersConflict, ObjectsConflict, OfEffect, ActionApplies, Applies, CanTake, IsNext}
-use Rattle.up_tree.specs.Plans.{RunsFrom, ReachesGoal}
+use Rattle.up_tree.specs.Faults.{Fault, unknown, arity, argument_type, precondition, condition_undefined, object_undefined, number_undefined, number_conflict, object_conflict, ObjectUndefined, NeedsOld, IsScaleDown, IsShift, NumberUndefined, OfEffect, ActionApplies, CanTake, IsNext}
 use Rattle.up_tree.proofs.States.{ground_total, ground_ties, contains-changed, number_at-changed}
 use Rattle.up_tree.proofs.Steps.{ByAction, Reaches, reached, run_of, next_exists}
-use Rattle.up_laws.specs.Symbols.{Symbol, predicate, function, TermsName, FormulaNames, EffectNames, RowNames, ActionNames, StepNames, ProblemNames, AgreeOn}
-use Rattle.up_laws.specs.Laws.{SameTruth, FaultsDepend, NextDepends, WiderDepends, LeadsTo, PlansDepend}
+use Rattle.up_laws.specs.Symbols.{Symbol, predicate, function, EffectNames, RowNames, ActionNames, StepNames, ProblemNames, AgreeOn}
+use Rattle.up_laws.specs.Laws.{SameTruth, FaultsDepend, NextDepends, WiderDepends, PlansDepend}
 use Rattle.up_laws.proofs.Lists.{each_as, each_member, each_map, each_flat_map, each_filter_map, same_filter_map, same_somewhere}
 use Rattle.up_laws.proofs.Same.{same_truth}
 use Rattle.up_laws.proofs.Agreeing.{same_atom, same_value, same_values, same_ground, same_number, same_judged}
@@ -172,8 +171,8 @@ module _ (Names : Symbol → Type 0) (s t : State) (agree : AgreeOn Names s t) w
   same_number_undefined e (Number change g us y) within =
       let operand : number s e y ≡ number t e y = same_number Names s t agree e y (λ x h. within x (inr (inr h))) in
       let old : IsSomeAnd (ground_at s e g us) (λ k. number_at s k ≡ None) ≡ IsSomeAnd (ground_at t e g us) (λ k. number_at t k ≡ None) =
-          ap (λ v. IsSomeAnd v (λ k. number_at s k ≡ None)) (same_ground Names s t agree e g us (λ x h. within x (inr (inl h))))
-          ∙ no_number g (within (function g) (inl refl)) (values_of t e us)
+      ap (λ v. IsSomeAnd v (λ k. number_at s k ≡ None)) (same_ground Names s t agree e g us (λ x h. within x (inr (inl h))))
+      ∙ no_number g (within (function g) (inl refl)) (values_of t e us)
       in
       λ i. (operand i ≡ None) ⊎ (NeedsOld change × old i) ⊎ (IsScaleDown change × IsSomeAnd (operand i) IsZero)
   same_number_undefined e (Object g us u) within = refl
@@ -188,7 +187,7 @@ module _ (Names : Symbol → Type 0) (s t : State) (agree : AgreeOn Names s t) w
       IsUndefined w s i.assignment i.row.when ↔ IsUndefined w t i.assignment i.row.when
   same_undefined w i within =
       let truth : SameTruth w s i.assignment i.row.when t i.assignment i.row.when =
-          same_truth w s i.assignment i.row.when t i.assignment i.row.when (same_judged Names s t agree w i.assignment i.row.when (λ x h. within x (inl h)))
+      same_truth w s i.assignment i.row.when t i.assignment i.row.when (same_judged Names s t agree w i.assignment i.row.when (λ x h. within x (inl h)))
       in
       both (denied truth.true_where) (denied truth.false_where)
 
@@ -223,8 +222,8 @@ module _ (Names : Symbol → Type 0) (s t : State) (agree : AgreeOn Names s t) w
     same_faults argument_type = same
     same_faults precondition =
         let truth : SameTruth w s (action_assignment a args) a.pre t (action_assignment a args) a.pre =
-            same_truth w s (action_assignment a args) a.pre t (action_assignment a args) a.pre
-            (same_judged Names s t agree w (action_assignment a args) a.pre (λ x h. within x (inl h)))
+        same_truth w s (action_assignment a args) a.pre t (action_assignment a args) a.pre
+        (same_judged Names s t agree w (action_assignment a args) a.pre (λ x h. within x (inl h)))
         in
         denied truth.true_where
     same_faults condition_undefined =
@@ -336,7 +335,7 @@ plans_depend p s t agree steps h =
     let end : (z : State) × Reaches p s steps z × True (world p) z unassigned p.goal = reached p (λ z. True (world p) z unassigned p.goal) steps s h.0 h.1 h.2 in
     let other : (y : State) × Reaches p t steps y × AgreeOn (ProblemNames p) end.0 y = both_reach p steps s t end.0 agree end.1 in
     let truth : SameTruth (world p) end.0 unassigned p.goal other.0 unassigned p.goal =
-        same_truth (world p) end.0 unassigned p.goal other.0 unassigned p.goal
-        (same_judged (ProblemNames p) end.0 other.0 other.2 (world p) unassigned p.goal (λ x h. inl h))
+    same_truth (world p) end.0 unassigned p.goal other.0 unassigned p.goal
+    (same_judged (ProblemNames p) end.0 other.0 other.2 (world p) unassigned p.goal (λ x h. inl h))
     in
     run_of p (λ z. True (world p) z unassigned p.goal) steps t other.0 other.1 (truth.true_where.0 end.2)

@@ -1,4 +1,4 @@
-use Rattle.std.proofs.Common.{◌≡◌, ◌↔◌, Bool, IsTrue, sym, subst}
+use Rattle.std.proofs.Common.{◌↔◌, Bool, IsTrue, sym, subst}
 use Rattle.up_laws.specs.Symbols.{FormulaNames, predicate}
 use Rattle.up_laws.proofs.Naming.{named-is}
 use Rattle.up_laws.proofs.named.names_predicate.Goals as goal
