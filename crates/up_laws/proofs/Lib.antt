@@ -1,6 +1,10 @@
 pub mod Lists
 pub mod Same
+pub mod Tables
+pub mod Firing
 pub mod Replacing
 pub mod Agreeing
 pub mod Stepping
+pub mod Planning
+pub mod Framing
 pub mod Naming

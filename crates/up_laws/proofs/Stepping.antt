@@ -1,8 +1,6 @@
 -- Faults and next states are the same in states that agree on what the action names.
-use Rattle.std.proofs.Common.{◌≡◌, ◌⊎◌, ◌↔◌, ◌≤◌, Bool, true, false, cond, not, ◌&&◌, ◌||◌, List, [], ◌∷◌, fold, find, length, Option, Some, None, option_map, option_and_then, IsSomeAnd, refl, ap, sym, ◌∙◌, subst, inl, inr}
-use Rattle.std.specs.Prelude.{if◌then◌else◌, IfSome}
-use Rattle.std.specs.List.{list_any, flat_map}
-use Rattle.std.specs.Cmp.{Equal-is}
+use Rattle.std.proofs.Common.{◌≡◌, ◌⊎◌, ◌↔◌, ◌≤◌, not, ◌&&◌, ◌||◌, List, [], ◌∷◌, fold, length, Option, Some, None, option_map, option_and_then, IsSomeAnd, refl, ap, sym, ◌∙◌, subst, inl, inr}
+use Rattle.std.specs.List.{list_any}
 use Rattle.std.specs.FinSet as set
 use Rattle.std.specs.FinMap as table
 use Rattle.up_frac.specs.Fraction.{Fraction}
@@ -16,21 +14,21 @@ use Rattle.up_tree.specs.declared.action.Effect.TheVariants.{Add, Delete, Number
 use Rattle.up_tree.specs.declared.action.Row.{Row}
 use Rattle.up_tree.specs.declared.problem.Parts.{Parts}
 use Rattle.up_tree.specs.declared.problem.Step.{Step}
-use Rattle.up_tree.specs.declared.truth.Truth.{Truth}
-use Rattle.up_tree.specs.Objects.{World, world, Assignment, assign, unassigned, tuples, action_named}
-use Rattle.up_tree.specs.State.{State, Ground, ground, ground_cmp, number_at, object_at}
+use Rattle.up_tree.specs.Objects.{World, world, Assignment, action_named}
+use Rattle.up_tree.specs.State.{State, Ground, ground, number_at, object_at}
 use Rattle.up_tree.specs.Value.{values_of, ground_at, number}
-use Rattle.up_tree.specs.Truth.{True, IsUndefined}
-use Rattle.up_tree.specs.Judged.{truth_of, is_true}
-use Rattle.up_tree.specs.Instances.{Instance, Fired, action_assignment, row_instances, instances, fired, firing}
+use Rattle.up_tree.specs.Truth.{IsUndefined}
+use Rattle.up_tree.specs.Instances.{Instance, Fired, action_assignment, instances, fired, firing}
 use Rattle.up_tree.specs.Changes.{NumberChange, ObjectChange, added, deleted, number_change, object_change, of_firing, is_at, changes_at, objects_at, new_number, new_object, put, changed}
-use Rattle.up_tree.specs.Faults.{Fault, unknown, arity, argument_type, precondition, condition_undefined, object_undefined, number_undefined, number_conflict, object_conflict, ObjectUndefined, NeedsOld, IsScaleDown, IsShift, NumberUndefined, OfEffect, ActionApplies, CanTake, IsNext}
-use Rattle.up_tree.proofs.States.{ground_total, ground_ties, contains-changed, number_at-changed}
-use Rattle.up_tree.proofs.Steps.{ByAction, Reaches, reached, run_of, next_exists}
-use Rattle.up_laws.specs.Symbols.{Symbol, predicate, function, EffectNames, RowNames, ActionNames, StepNames, ProblemNames, AgreeOn}
-use Rattle.up_laws.specs.Laws.{SameTruth, FaultsDepend, NextDepends, WiderDepends, PlansDepend}
-use Rattle.up_laws.proofs.Lists.{each_as, each_member, each_map, each_flat_map, each_filter_map, same_filter_map, same_somewhere}
+use Rattle.up_tree.specs.Faults.{Fault, unknown, arity, argument_type, precondition, condition_undefined, object_undefined, number_undefined, number_conflict, object_conflict, ObjectUndefined, NeedsOld, IsScaleDown, IsShift, NumberUndefined, OfEffect, ActionApplies, IsNext}
+use Rattle.up_tree.proofs.States.{contains-changed, number_at-changed}
+use Rattle.up_tree.proofs.Steps.{ByAction}
+use Rattle.up_laws.specs.Symbols.{Symbol, predicate, function, EffectNames, RowNames, ActionNames, StepNames, AgreeOn}
+use Rattle.up_laws.specs.Laws.{SameTruth, FaultsDepend, NextDepends, WiderDepends}
+use Rattle.up_laws.proofs.Lists.{each_as, same_filter_map, same_somewhere}
 use Rattle.up_laws.proofs.Same.{same_truth}
+use Rattle.up_laws.proofs.Tables.{all_put}
+use Rattle.up_laws.proofs.Firing.{fired_if, each_instance, each_fired}
 use Rattle.up_laws.proofs.Agreeing.{same_atom, same_value, same_values, same_ground, same_number, same_judged}
 
 same : {A : Type 0} → A ↔ A
@@ -48,86 +46,46 @@ denied f = (λ n b. n (f.1 b), λ n a. n (f.0 a))
 both : {A B C D : Type 0} → A ↔ B → C ↔ D → (A × C) ↔ (B × D)
 both f g = (λ x. (f.0 x.0, g.0 x.1), λ y. (f.1 y.0, g.1 y.1))
 
--- ---- one entry of two tables after the same terms were set
+-- ---- rows and effects that name nothing else
 
-get-put : {X : Type 0} (m : table.FinMap ground_cmp X) (k : Ground) (v : Option X) (q : Ground) →
-    table.get (put m k v) q ≡ cond (is_at q k) v (table.get m q)
-get-put m k (Some v) q = table.get-insert ground_total m k v q
-get-put m k None q = table.get-remove ground_total m k q
+abbrev Within : (Symbol → Type 0) → (Symbol → Type 0) → Type 0
+Within X Names = (x : Symbol) → X x → Names x
 
-module _ {C X : Type 0} (key : C → Ground) (u v : Ground → Option X) (q : Ground) (here : u q ≡ v q) where
-  one_put : (m n : table.FinMap ground_cmp X) (k : Ground) → table.get m q ≡ table.get n q → table.get (put m k (u k)) q ≡ table.get (put n k (v k)) q
-  one_put m n k e = get-put m k (u k) q ∙ by (is_at q k) refl ∙ sym (get-put n k (v k) q)
-    where
-      by : (b : Bool) → is_at q k ≡ b → cond b (u k) (table.get m q) ≡ cond b (v k) (table.get n q)
-      by true at = subst (λ k. u k ≡ v k) (ground_ties q k ((Equal-is (ground_cmp q k)).0 at)) here
-      by false at = e
-
-  all_put : (cs : List C) (m n : table.FinMap ground_cmp X) → table.get m q ≡ table.get n q →
-      table.get (fold (λ m c. put m (key c) (u (key c))) m cs) q ≡ table.get (fold (λ m c. put m (key c) (v (key c))) n cs) q
-  all_put [] m n e = e
-  all_put (c ∷ cs) m n e = all_put cs (put m (key c) (u (key c))) (put n (key c) (v (key c))) (one_put m n (key c) e)
-
--- ---- rows, instances and what fires
-
-abbrev instance_at : Assignment → Row → List Name → Instance
-instance_at e row tuple = record { assignment = assign row.vars tuple e; row = row }
-
-abbrev fired_if : Instance → Truth → Option Fired
-fired_if i v = if is_true v then Some (record { assignment = i.assignment; effect = i.row.effect }) else None
-
-abbrev number_change_of : Change → Option Ground → Option Fraction → Option NumberChange
+abbrev pub number_change_of : Change → Option Ground → Option Fraction → Option NumberChange
 number_change_of change at by = option_and_then (λ target. option_map (λ operand. record { target = target; change = change; operand = operand }) by) at
 
-abbrev object_change_of : Option Ground → Option Name → Option ObjectChange
+abbrev pub object_change_of : Option Ground → Option Name → Option ObjectChange
 object_change_of at by = option_and_then (λ target. option_map (λ value. record { target = target; value = Some value }) by) at
 
-abbrev undefining : Option Ground → Option ObjectChange
+abbrev pub undefining : Option Ground → Option ObjectChange
 undefining at = option_map (λ target. record { target = target; value = None }) at
 
 module _ (Names : Symbol → Type 0) where
   -- the effect of each that fires names nothing else
   abbrev AreWithin : List Fired → Type 0
-  AreWithin fs = Every (λ f. (x : Symbol) → EffectNames f.effect x → Names x) fs
+  AreWithin fs = Every (λ f. Within (EffectNames f.effect) Names) fs
 
   rows_within : (rows : List Row) → ((x : Symbol) → Somewhere (λ row. RowNames row x) rows → Names x) →
-      Every (λ row. (x : Symbol) → RowNames row x → Names x) rows
+      Every (λ row. Within (RowNames row) Names) rows
   rows_within [] within = tt
   rows_within (row ∷ rows) within = ((λ x h. within x (inl h)), rows_within rows (λ x h. within x (inr h)))
 
-  instances_within : (w : World) (e : Assignment) (rows : List Row) → Every (λ row. (x : Symbol) → RowNames row x → Names x) rows →
-      Every (λ i. (x : Symbol) → RowNames i.row x → Names x) (flat_map (row_instances w e) rows)
-  instances_within w e rows each =
-      each_flat_map (λ i. (x : Symbol) → RowNames i.row x → Names x) (row_instances w e) rows
-      (each_as (λ row. (x : Symbol) → RowNames row x → Names x) _
-      (λ row within. each_map (λ i. (x : Symbol) → RowNames i.row x → Names x) (instance_at e row) (tuples w row.vars) (each_member _ (tuples w row.vars) (λ tuple m. within)))
-      rows each)
-
-  fired_within : (i : Instance) → ((x : Symbol) → RowNames i.row x → Names x) → (v : Truth) →
-      IfSome (fired_if i v) (λ f. (x : Symbol) → EffectNames f.effect x → Names x)
-  fired_within i within v = by (is_true v)
-    where
-      by : (b : Bool) → IfSome (if b then Some (let f : Fired = record { assignment = i.assignment; effect = i.row.effect } in f) else None)
-          (λ f. (x : Symbol) → EffectNames f.effect x → Names x)
-      by true = λ x h. within x (inr h)
-      by false = tt
-
 module _ (Names : Symbol → Type 0) (s t : State) (agree : AgreeOn Names s t) where
-  same_added : (e : Assignment) (f : Effect) → ((x : Symbol) → EffectNames f x → Names x) → added s e f ≡ added t e f
+  same_added : (e : Assignment) (f : Effect) → Within (EffectNames f) Names → added s e f ≡ added t e f
   same_added e (Add name us) within = same_ground Names s t agree e name us (λ x h. within x (inr h))
   same_added e (Delete name us) within = refl
   same_added e (Number change g us x) within = refl
   same_added e (Object g us u) within = refl
   same_added e (Undefine g us) within = refl
 
-  same_deleted : (e : Assignment) (f : Effect) → ((x : Symbol) → EffectNames f x → Names x) → deleted s e f ≡ deleted t e f
+  same_deleted : (e : Assignment) (f : Effect) → Within (EffectNames f) Names → deleted s e f ≡ deleted t e f
   same_deleted e (Add name us) within = refl
   same_deleted e (Delete name us) within = same_ground Names s t agree e name us (λ x h. within x (inr h))
   same_deleted e (Number change g us x) within = refl
   same_deleted e (Object g us u) within = refl
   same_deleted e (Undefine g us) within = refl
 
-  same_number_change : (e : Assignment) (f : Effect) → ((x : Symbol) → EffectNames f x → Names x) → number_change s e f ≡ number_change t e f
+  same_number_change : (e : Assignment) (f : Effect) → Within (EffectNames f) Names → number_change s e f ≡ number_change t e f
   same_number_change e (Add name us) within = refl
   same_number_change e (Delete name us) within = refl
   same_number_change e (Number change g us y) within =
@@ -135,7 +93,7 @@ module _ (Names : Symbol → Type 0) (s t : State) (agree : AgreeOn Names s t) w
   same_number_change e (Object g us u) within = refl
   same_number_change e (Undefine g us) within = refl
 
-  same_object_change : (e : Assignment) (f : Effect) → ((x : Symbol) → EffectNames f x → Names x) → object_change s e f ≡ object_change t e f
+  same_object_change : (e : Assignment) (f : Effect) → Within (EffectNames f) Names → object_change s e f ≡ object_change t e f
   same_object_change e (Add name us) within = refl
   same_object_change e (Delete name us) within = refl
   same_object_change e (Number change g us x) within = refl
@@ -144,15 +102,15 @@ module _ (Names : Symbol → Type 0) (s t : State) (agree : AgreeOn Names s t) w
   same_object_change e (Undefine g us) within = ap undefining (same_ground Names s t agree e g us (λ x h. within x (inr h)))
 
   same_of : {A : Type 0} (what : State → Assignment → Effect → Option A) →
-      ((e : Assignment) (f : Effect) → ((x : Symbol) → EffectNames f x → Names x) → what s e f ≡ what t e f) →
+      ((e : Assignment) (f : Effect) → Within (EffectNames f) Names → what s e f ≡ what t e f) →
       (fs : List Fired) → AreWithin Names fs → of_firing what s fs ≡ of_firing what t fs
   same_of what each fs within =
       same_filter_map (λ f. what s f.assignment f.effect) (λ f. what t f.assignment f.effect) fs
-      (each_as (λ f. (x : Symbol) → EffectNames f.effect x → Names x) _ (λ f h. each f.assignment f.effect h) fs within)
+      (each_as (λ f. Within (EffectNames f.effect) Names) _ (λ f h. each f.assignment f.effect h) fs within)
 
   -- ---- faults of one effect
 
-  same_object_undefined : (e : Assignment) (f : Effect) → ((x : Symbol) → EffectNames f x → Names x) → ObjectUndefined s e f ≡ ObjectUndefined t e f
+  same_object_undefined : (e : Assignment) (f : Effect) → Within (EffectNames f) Names → ObjectUndefined s e f ≡ ObjectUndefined t e f
   same_object_undefined e (Add name us) within = λ i. same_values Names s t agree e us (λ x h. within x (inr h)) i ≡ None
   same_object_undefined e (Delete name us) within = λ i. same_values Names s t agree e us (λ x h. within x (inr h)) i ≡ None
   same_object_undefined e (Number change g us y) within = λ i. same_values Names s t agree e us (λ x h. within x (inr (inl h))) i ≡ None
@@ -165,7 +123,7 @@ module _ (Names : Symbol → Type 0) (s t : State) (agree : AgreeOn Names s t) w
   no_number g named None = refl
   no_number g named (Some objects) = λ i. agree.numbers g named objects i ≡ None
 
-  same_number_undefined : (e : Assignment) (f : Effect) → ((x : Symbol) → EffectNames f x → Names x) → NumberUndefined s e f ≡ NumberUndefined t e f
+  same_number_undefined : (e : Assignment) (f : Effect) → Within (EffectNames f) Names → NumberUndefined s e f ≡ NumberUndefined t e f
   same_number_undefined e (Add name us) within = refl
   same_number_undefined e (Delete name us) within = refl
   same_number_undefined e (Number change g us y) within =
@@ -180,10 +138,10 @@ module _ (Names : Symbol → Type 0) (s t : State) (agree : AgreeOn Names s t) w
 
   -- ---- an action
 
-  same_fired : (w : World) (i : Instance) → ((x : Symbol) → RowNames i.row x → Names x) → fired w s i ≡ fired w t i
+  same_fired : (w : World) (i : Instance) → Within (RowNames i.row) Names → fired w s i ≡ fired w t i
   same_fired w i within = ap (fired_if i) (same_judged Names s t agree w i.assignment i.row.when (λ x h. within x (inl h)))
 
-  same_undefined : (w : World) (i : Instance) → ((x : Symbol) → RowNames i.row x → Names x) →
+  same_undefined : (w : World) (i : Instance) → Within (RowNames i.row) Names →
       IsUndefined w s i.assignment i.row.when ↔ IsUndefined w t i.assignment i.row.when
   same_undefined w i within =
       let truth : SameTruth w s i.assignment i.row.when t i.assignment i.row.when =
@@ -192,29 +150,30 @@ module _ (Names : Symbol → Type 0) (s t : State) (agree : AgreeOn Names s t) w
       both (denied truth.true_where) (denied truth.false_where)
 
   module _ (w : World) (a : Action) (args : List Name) (within : (x : Symbol) → ActionNames a x → Names x) where
-    all_within : Every (λ i. (x : Symbol) → RowNames i.row x → Names x) (instances w a args)
-    all_within = instances_within Names w (action_assignment a args) a.rows (rows_within Names a.rows (λ x h. within x (inr h)))
+    all_within : Every (λ i. Within (RowNames i.row) Names) (instances w a args)
+    all_within =
+        each_instance (λ row. Within (RowNames row) Names) w (action_assignment a args) a.rows (rows_within Names a.rows (λ x h. within x (inr h)))
 
     same_firing : firing w s a args ≡ firing w t a args
-    same_firing = same_filter_map (fired w s) (fired w t) (instances w a args) (each_as (λ i. (x : Symbol) → RowNames i.row x → Names x) _ (λ i h. same_fired w i h) (instances w a args) all_within)
+    same_firing = same_filter_map (fired w s) (fired w t) (instances w a args) (each_as (λ i. Within (RowNames i.row) Names) _ (λ i h. same_fired w i h) (instances w a args) all_within)
 
     firing_within : AreWithin Names (firing w t a args)
     firing_within =
-        each_filter_map (λ f. (x : Symbol) → EffectNames f.effect x → Names x) (fired w t) (instances w a args)
-        (each_as (λ i. (x : Symbol) → RowNames i.row x → Names x) _ (λ i h. fired_within Names i h (truth_of w t i.assignment i.row.when)) (instances w a args) all_within)
+        each_fired (λ f. Within (EffectNames f) Names) w t (instances w a args)
+        (each_as (λ i. Within (RowNames i.row) Names) _ (λ i h x k. h x (inr k)) (instances w a args) all_within)
 
     same_all : {A : Type 0} (what : State → Assignment → Effect → Option A) →
-        ((e : Assignment) (f : Effect) → ((x : Symbol) → EffectNames f x → Names x) → what s e f ≡ what t e f) →
+        ((e : Assignment) (f : Effect) → Within (EffectNames f) Names → what s e f ≡ what t e f) →
         of_firing what s (firing w s a args) ≡ of_firing what t (firing w t a args)
     same_all what each = ap (of_firing what s) same_firing ∙ same_of what each (firing w t a args) firing_within
 
     same_effects : (What : State → Assignment → Effect → Type 0) →
-        ((e : Assignment) (f : Effect) → ((x : Symbol) → EffectNames f x → Names x) → What s e f ≡ What t e f) →
+        ((e : Assignment) (f : Effect) → Within (EffectNames f) Names → What s e f ≡ What t e f) →
         OfEffect What s (firing w s a args) ↔ OfEffect What t (firing w t a args)
     same_effects What each =
         after (by_path (ap (OfEffect What s) same_firing))
         (same_somewhere (λ f. What s f.assignment f.effect) (λ f. What t f.assignment f.effect) (firing w t a args)
-        (each_as (λ f. (x : Symbol) → EffectNames f.effect x → Names x) _ (λ f h. by_path (each f.assignment f.effect h)) (firing w t a args) firing_within))
+        (each_as (λ f. Within (EffectNames f.effect) Names) _ (λ f h. by_path (each f.assignment f.effect h)) (firing w t a args) firing_within))
 
     pub same_faults : (fault : Fault) → ActionApplies w s a args fault ↔ ActionApplies w t a args fault
     same_faults unknown = same
@@ -228,7 +187,7 @@ module _ (Names : Symbol → Type 0) (s t : State) (agree : AgreeOn Names s t) w
         denied truth.true_where
     same_faults condition_undefined =
         same_somewhere (λ i. IsUndefined w s i.assignment i.row.when) (λ i. IsUndefined w t i.assignment i.row.when) (instances w a args)
-        (each_as (λ i. (x : Symbol) → RowNames i.row x → Names x) _ (λ i h. same_undefined w i h) (instances w a args) all_within)
+        (each_as (λ i. Within (RowNames i.row) Names) _ (λ i h. same_undefined w i h) (instances w a args) all_within)
     same_faults object_undefined = same_effects ObjectUndefined same_object_undefined
     same_faults number_undefined = same_effects NumberUndefined same_number_undefined
     same_faults number_conflict =
@@ -281,7 +240,7 @@ faults_depend p s t step agree fault = by (action_named p step.action) agree
     by None agree = same
     by (Some a) agree = same_faults (ActionNames a) s t agree (world p) a step.args (λ x h. h) fault
 
-agree_after : (Names : Symbol → Type 0) (p : Parts) (s t : State) (step : Step) → ((x : Symbol) → StepNames p step x → Names x) → AgreeOn Names s t →
+pub agree_after : (Names : Symbol → Type 0) (p : Parts) (s t : State) (step : Step) → ((x : Symbol) → StepNames p step x → Names x) → AgreeOn Names s t →
     (next_s next_t : State) → IsNext p s step next_s → IsNext p t step next_t → AgreeOn Names next_s next_t
 agree_after Names p s t step within agree next_s next_t = by (action_named p step.action) within
   where
@@ -298,44 +257,3 @@ next_depends p s t step agree = agree_after (StepNames p step) p s t step (λ x 
 
 pub wider_depends : WiderDepends
 wider_depends p s t step symbols within agree = agree_after (λ x. Member x symbols) p s t step within agree
-
--- ---- the law of plans
-
-found_among : (test : Action → Bool) (P : Action → Type 0) (actions : List Action) → IsSomeAnd (find test actions) P → Somewhere P actions
-found_among test P [] h = h
-found_among test P (a ∷ actions) h = by (test a) h (found_among test P actions)
-  where
-    by : (b : Bool) → IsSomeAnd (cond b (Some a) (find test actions)) P → (IsSomeAnd (find test actions) P → Somewhere P actions) → P a ⊎ Somewhere P actions
-    by true h more = inl h
-    by false h more = inr (more h)
-
-restricted : (P Q : Symbol → Type 0) (s t : State) → ((x : Symbol) → P x → Q x) → AgreeOn Q s t → AgreeOn P s t
-restricted P Q s t within agree = record {
-  atoms = λ p named. agree.atoms p (within (predicate p) named);
-  numbers = λ f named. agree.numbers f (within (function f) named);
-  values = λ f named. agree.values f (within (function f) named);
-}
-
-step_within : (p : Parts) (step : Step) (x : Symbol) → StepNames p step x → ProblemNames p x
-step_within p step x h = inr (found_among _ (λ a. ActionNames a x) p.actions h)
-
-both_reach : (p : Parts) (steps : List Step) (s t z : State) → AgreeOn (ProblemNames p) s t → Reaches p s steps z →
-    (y : State) × Reaches p t steps y × AgreeOn (ProblemNames p) z y
-both_reach p [] s t z agree h = (t, refl, subst (λ z. AgreeOn (ProblemNames p) z t) h agree)
-both_reach p (step ∷ steps) s t z agree h =
-    let named : AgreeOn (StepNames p step) s t = restricted (StepNames p step) (ProblemNames p) s t (step_within p step) agree in
-    let can : CanTake p t step = λ fault k. h.0 fault ((faults_depend p s t step named fault).1 k) in
-    let next : (v : State) × IsNext p t step v = next_exists p t step can in
-    let agree_then : AgreeOn (ProblemNames p) h.1.0 next.0 = agree_after (ProblemNames p) p s t step (step_within p step) agree h.1.0 next.0 h.1.1 next.1 in
-    let more : (y : State) × Reaches p next.0 steps y × AgreeOn (ProblemNames p) z y = both_reach p steps h.1.0 next.0 z agree_then h.1.2 in
-    (more.0, (can, (next.0, next.1, more.1)), more.2)
-
-pub plans_depend : PlansDepend
-plans_depend p s t agree steps h =
-    let end : (z : State) × Reaches p s steps z × True (world p) z unassigned p.goal = reached p (λ z. True (world p) z unassigned p.goal) steps s h.0 h.1 h.2 in
-    let other : (y : State) × Reaches p t steps y × AgreeOn (ProblemNames p) end.0 y = both_reach p steps s t end.0 agree end.1 in
-    let truth : SameTruth (world p) end.0 unassigned p.goal other.0 unassigned p.goal =
-    same_truth (world p) end.0 unassigned p.goal other.0 unassigned p.goal
-    (same_judged (ProblemNames p) end.0 other.0 other.2 (world p) unassigned p.goal (λ x h. inl h))
-    in
-    run_of p (λ z. True (world p) z unassigned p.goal) steps t other.0 other.1 (truth.true_where.0 end.2)

@@ -15,7 +15,7 @@ use Rattle.up_tree.specs.Truth.{True, False}
 use Rattle.up_tree.specs.Faults.{Fault, Applies, IsNext}
 use Rattle.up_tree.specs.Plans.{RunsFrom, ReachesGoal}
 use Rattle.up_laws.specs.Replaced.{substituted_term, substituted_expr, substituted}
-use Rattle.up_laws.specs.Symbols.{Symbol, TermNames, ExprNames, FormulaNames, StepNames, ProblemNames, AgreeOn}
+use Rattle.up_laws.specs.Symbols.{Symbol, TermNames, ExprNames, FormulaNames, StepNames, StepChanges, ProblemNames, AgreeOn}
 
 -- one formula in one state under one assignment is true where the other is, and false where the other is
 pub record SameTruth (w : World) (s : State) (d : Assignment) (f : Formula) (t : State) (e : Assignment) (g : Formula) : Type 0 where
@@ -61,6 +61,10 @@ abbrev pub WiderDepends : Type 0
 WiderDepends = (p : Parts) (s t : State) (step : Step) (symbols : List Symbol) →
     ((x : Symbol) → StepNames p step x → Member x symbols) → AgreeOn (λ x. Member x symbols) s t →
     (next_s next_t : State) → IsNext p s step next_s → IsNext p t step next_t → AgreeOn (λ x. Member x symbols) next_s next_t
+
+-- a step leaves as it was what no effect of its action changes
+abbrev pub RestStays : Type 0
+RestStays = (p : Parts) (s : State) (step : Step) (next : State) → IsNext p s step next → AgreeOn (λ x. ¬ StepChanges p step x) s next
 
 -- the steps can be taken from the state, and lead to the goal
 abbrev pub LeadsTo : Parts → State → List Step → Type 0

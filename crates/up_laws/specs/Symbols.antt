@@ -72,6 +72,18 @@ ActionNames a x = FormulaNames a.pre x ⊎ Somewhere (λ row. RowNames row x) a.
 abbrev pub StepNames : Parts → Step → Symbol → Type 0
 StepNames p step x = IsSomeAnd (action_named p step.action) (λ a. ActionNames a x)
 
+-- the predicate or function whose atoms or terms an effect changes
+abbrev pub target : Effect → Symbol
+target (effect.Add name ts) = predicate name
+target (effect.Delete name ts) = predicate name
+target (effect.Number change f ts operand) = function f
+target (effect.Object f ts t) = function f
+target (effect.Undefine f ts) = function f
+
+-- an effect of the step's action changes some of its atoms or terms
+abbrev pub StepChanges : Parts → Step → Symbol → Type 0
+StepChanges p step x = IsSomeAnd (action_named p step.action) (λ a. Somewhere (λ row. x ≡ target row.effect) a.rows)
+
 -- what the goal or an action names
 abbrev pub ProblemNames : Parts → Symbol → Type 0
 ProblemNames p x = FormulaNames p.goal x ⊎ Somewhere (λ a. ActionNames a x) p.actions

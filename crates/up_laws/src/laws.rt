@@ -1,5 +1,5 @@
 //! Laws of the definitions, each the contract of a function that does nothing.
-ghost use Rattle.up_laws.specs.Laws.{TermsSubstitute, ExprsSubstitute, FormulasSubstitute, TermsDepend, ExprsDepend, FormulasDepend, FaultsDepend, NextDepends, WiderDepends, PlansDepend};
+ghost use Rattle.up_laws.specs.Laws.{TermsSubstitute, ExprsSubstitute, FormulasSubstitute, TermsDepend, ExprsDepend, FormulasDepend, FaultsDepend, NextDepends, WiderDepends, RestStays, PlansDepend};
 
 /// Objects put in the place of variables give what the objects assigned to the variables give: the same objects of
 /// terms, numbers of expressions and truth of formulas. Of lists of different lengths the longer one's rest counts
@@ -24,6 +24,12 @@ pub fn steps_depend_on_named_parts()
     ensures faults { FaultsDepend }
     ensures next { NextDepends }
     ensures wider { WiderDepends }
+{}
+
+/// A step leaves all atoms, numbers and objects as they were but those of predicates and functions that an effect of
+/// its action is about.
+pub fn rest_stays()
+    ensures { RestStays }
 {}
 
 /// From states that agree on what the actions and the goal of a problem name, the same steps lead to the goal.

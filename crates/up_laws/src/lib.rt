@@ -5,7 +5,7 @@ mod laws;
 mod named;
 
 pub use laws::{
-    named_parts_decide, plans_depend_on_named_parts, steps_depend_on_named_parts,
+    named_parts_decide, plans_depend_on_named_parts, rest_stays, steps_depend_on_named_parts,
     substitution_assigns,
 };
 pub use named::names_predicate;
