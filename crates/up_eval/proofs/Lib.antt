@@ -5,3 +5,5 @@ pub mod Grounds
 pub mod Numbers
 pub mod Conditions
 pub mod Metrics
+pub mod OfEffects
+pub mod Gathered
