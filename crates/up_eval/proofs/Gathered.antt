@@ -16,11 +16,14 @@ use Rattle.up_tree.specs.Changes.{NumberChange, ObjectChange, is_at, changes_at,
 use Rattle.up_tree.specs.Faults.{IsShift}
 use Rattle.up_tree.specs.Big.{IsBigNumber, BigChange}
 use Rattle.up_tree.proofs.States.{ground_total, ground_ties}
+use Rattle.up_eval.specs.declared.changes.NumberChange.{NumberChange as MadeChange}
+use Rattle.up_eval.specs.declared.changes.ObjectChange.{ObjectChange as FoundObject}
 use Rattle.up_eval.specs.declared.gathering.Gathered.{Gathered}
 use Rattle.up_eval.specs.declared.step_error.Why.TheVariants as why
 use Rattle.up_eval.specs.declared.stop.Stop.{Stop}
 use Rattle.up_eval.specs.declared.stop.Stop.TheVariants as stop
 use Rattle.up_eval.specs.Numbers.{sum_of, difference_of}
+use Rattle.up_eval.specs.Effects.{number_meant, object_meant}
 use Rattle.up_eval.specs.Gathering.{is_shift, first_number, more_shifts, gathered_next, gathered_after, gathered_of, gathered_value, IsGatheredStop, IsMixed, AreApart, AreGathered, IsGatherStop, GathersMore, StopsAt, new_numbers, settled_numbers, first_value, Agree, AreFirst, TwoDiffer, IsObjectStop, FirstOfMore, DiffersFrom}
 use Rattle.up_eval.proofs.OfEffects.{every_push}
 
@@ -167,7 +170,7 @@ abbrev by_change : Option Fraction → NumberChange → List NumberChange → Ga
 by_change old d more = record { shifts = is_shift d.change; value = new_number old (d ∷ more) }
 
 some≢none : {X : Type 0} (x : X) → Some x ≡ None → ⊥
-some≢none x e = true≢false (ap is e)
+some≢none {X = X} x e = true≢false (ap is e)
   where
     is : Option X → Bool
     is None = false
@@ -397,6 +400,14 @@ no_two cs all h =
     other.2 (ap (λ o. unwrap_or o one.0.value) (sym one.1 ∙ other.1))
 
 -- ---- loops over the changes
+
+pub gathers_none : (s : State) (cs : List MadeChange) (m : table.FinMap ground_cmp Gathered) → m ≡ table.empty → AreGathered s (map number_meant (take 0 cs)) m
+gathers_none s [] m is = subst (AreGathered s []) (sym is) (none_gathered s)
+gathers_none s (c ∷ cs) m is = subst (AreGathered s []) (sym is) (none_gathered s)
+
+pub firsts_none : (cs : List FoundObject) (m : table.FinMap ground_cmp (Option Name)) → m ≡ table.empty → AreFirst (map object_meant (take 0 cs)) m
+firsts_none [] m is = subst (AreFirst []) (sym is) none_first
+firsts_none (c ∷ cs) m is = subst (AreFirst []) (sym is) none_first
 
 module _ {A B : Type 0} (g : A → B) where
   taken : (xs : List A) (i : ℕ) (x : A) → i < length xs → x ≡ get_or xs i x → map g (take i xs) ++ g x ∷ [] ≡ map g (take (i + 1) xs)

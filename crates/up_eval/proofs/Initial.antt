@@ -83,6 +83,13 @@ add_all-push : (ks : List Ground) (k : Ground) (s : set.FinSet ground_cmp) → a
 add_all-push [] k s = refl
 add_all-push (x ∷ ks) k s = ap (λ t. set.insert t x) (add_all-push ks k s)
 
+pub add_last_key : (left before : List Ground) (k : Ground) (s t : set.FinSet ground_cmp) → left ≡ before ++ k ∷ [] → t ≡ set.insert s k → add_all left s ≡ add_all before t
+add_last_key left before k s t split is = ap (λ ks. add_all ks s) split ∙ add_all-push before k s ∙ ap (add_all before) (sym is)
+
+pub put_last_entry : {X : Type 0} (left before : List (Ground × X)) (e : Ground × X) (m n : table.FinMap ground_cmp X) → left ≡ before ++ e ∷ [] → n ≡ table.insert m e.0 e.1
+    → put_all left m ≡ put_all before n
+put_last_entry left before e m n split is = ap (λ es. put_all es m) split ∙ put_all-push before e m ∙ ap (put_all before) (sym is)
+
 map-push : {A B : Type 0} (f : A → B) (xs : List A) (x : A) → map f (xs ++ x ∷ []) ≡ map f xs ++ f x ∷ []
 map-push f [] x = refl
 map-push f (y ∷ xs) x = ap (λ ys. f y ∷ ys) (map-push f xs x)

@@ -5,5 +5,7 @@ pub mod Grounds
 pub mod Numbers
 pub mod Conditions
 pub mod Metrics
+pub mod Stops
 pub mod OfEffects
 pub mod Gathered
+pub mod StateChanges

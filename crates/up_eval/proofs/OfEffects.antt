@@ -1,5 +1,5 @@
 -- What the effects that take place lack and change, one by one and all together.
-use Rattle.std.proofs.Common.{◌≡◌, ◌⊎◌, ℕ, zero, suc, ◌+◌, ◌<◌, arith, Bool, true, false, true≢false, cond, ◌&&◌, ◌||◌, List, [], ◌∷◌, ◌++◌, map, take, drop, get_or, length, Option, Some, None, IsSomeAnd, option_map, option_and_then, refl, ap, sym, ◌∙◌, subst, inl, inr, append_assoc}
+use Rattle.std.proofs.Common.{◌≡◌, ◌⊎◌, ℕ, zero, suc, ◌+◌, ◌<◌, ◌≤◌, arith, Bool, true, false, true≢false, cond, ◌&&◌, ◌||◌, List, [], ◌∷◌, ◌++◌, map, take, drop, get_or, length, Option, Some, None, IsSomeAnd, option_map, option_and_then, refl, ap, sym, ◌∙◌, subst, inl, inr, append_assoc}
 use Rattle.std.specs.Prelude.{ℤ, pos, negsuc, is_some, is_none, filter_map}
 use Rattle.std.specs.List.{list_any}
 use Rattle.std.proofs.lemmas.List.{map-append, take_more}
@@ -21,12 +21,15 @@ use Rattle.up_tree.specs.Instances.{Fired}
 use Rattle.up_tree.specs.Changes.{NumberChange, ObjectChange, number_change, object_change, of_firing}
 use Rattle.up_tree.specs.Faults.{ObjectUndefined, NumberUndefined, NeedsOld, IsScaleDown, OfEffect}
 use Rattle.up_tree.specs.Big.{BigExpr, BigOperand}
+use Rattle.up_eval.specs.declared.changes.NumberChange.{NumberChange as MadeChange}
 use Rattle.up_eval.specs.declared.firing.Firing.{Firing}
 use Rattle.up_eval.specs.declared.step_error.Why.TheVariants as why
 use Rattle.up_eval.specs.declared.stop.Stop.{Stop}
 use Rattle.up_eval.specs.declared.stop.Stop.TheVariants as stop
+use Rattle.up_eval.specs.declared.scope.Binding.{Binding}
+use Rattle.up_eval.specs.Scope.{assignment_of}
 use Rattle.up_eval.specs.Firing.{meant, meant_all}
-use Rattle.up_eval.specs.Effects.{at_fired, OfFired, at_most_one, lacks_object, lacks_number, lacks_old, needs_old, is_zero, divides_by_zero, change_of, value_of, assigned_value, IsNumberStop, IsNumbersStop}
+use Rattle.up_eval.specs.Effects.{at_fired, OfFired, at_most_one, lacks_object, lacks_number, lacks_old, needs_old, is_zero, divides_by_zero, number_meant, change_of, value_of, assigned_value, IsNumberStop, IsNumbersStop}
 
 -- ---- tests and facts of some element
 
@@ -193,44 +196,14 @@ module _ (s : State) (c : Change) where
       by false is h (inr (inl k)) = old_false target h k.0 k.1
       by false is h (inr (inr k)) = divides_false c x is k.0 k.1
 
--- ---- an effect of one sort
-
-module _ (s : State) (e : Assignment) (x : Effect) where
-  module _ (c : Change) (f : Name) (ts : List Term) (n : Expr) (is : x ≡ Number c f ts n) where
-    pub number_value : (r : Option NumberChange) → r ≡ change_of c (ground_at s e f ts) (number s e n) → r ≡ number_change s e x
-    number_value r at = at ∙ sym (by (ground_at s e f ts) (number s e n)) ∙ ap (number_change s e) (sym is)
-      where
-        by : (t : Option Ground) (v : Option Fraction) → option_and_then (λ target. option_map (λ operand. record { target = target; change = c; operand = operand }) v) t ≡ change_of c t v
-        by None None = refl
-        by None (Some v) = refl
-        by (Some t) None = refl
-        by (Some t) (Some v) = refl
-
-    pub number_defined : lacks_number s c (ground_at s e f ts) (number s e n) ≡ false → ¬ NumberUndefined s e x
-    number_defined h k = number_false s c (ground_at s e f ts) (number s e n) h (subst (NumberUndefined s e) is k)
-
-    pub number_undefined : lacks_number s c (ground_at s e f ts) (number s e n) ≡ true → NumberUndefined s e x
-    number_undefined h = subst (NumberUndefined s e) (sym is) (number_true s c (ground_at s e f ts) (number s e n) h)
-
-    pub number_big : BigExpr s e n → BigOperand s e x
-    number_big h = subst (BigOperand s e) (sym is) h
-
-  pub object_value : (f : Name) (ts : List Term) (t : Term) → x ≡ Object f ts t
-      → (r : Option ObjectChange) → r ≡ assigned_value (ground_at s e f ts) (term_value s e t) → r ≡ object_change s e x
-  object_value f ts t is r at = at ∙ sym (by (ground_at s e f ts) (term_value s e t)) ∙ ap (object_change s e) (sym is)
-    where
-      by : (g : Option Ground) (v : Option Name) → option_and_then (λ target. option_map (λ value. record { target = target; value = Some value }) v) g ≡ assigned_value g v
-      by None None = refl
-      by None (Some v) = refl
-      by (Some t) None = refl
-      by (Some t) (Some v) = refl
-
-  pub object_taken : (f : Name) (ts : List Term) → x ≡ Undefine f ts → (r : Option ObjectChange) → r ≡ value_of (ground_at s e f ts) None → r ≡ object_change s e x
-  object_taken f ts is r at = at ∙ sym (by (ground_at s e f ts)) ∙ ap (object_change s e) (sym is)
-    where
-      by : (g : Option Ground) → option_map (λ target. record { target = target; value = None }) g ≡ value_of g None
-      by None = refl
-      by (Some t) = refl
+-- no number that a change needs is undefined
+pub number_defined : (s : State) (x : Effect) (bs cs : List Binding) (c : Change) (f : Name) (ts us : List Term) (n : Expr) (target : Option Ground) (operand : Option Fraction)
+    → x ≡ Number c f ts n → cs ≡ bs → us ≡ ts → target ≡ ground_at s (assignment_of cs) f us → operand ≡ number s (assignment_of cs) n
+    → lacks_number s c target operand ≡ false → ¬ NumberUndefined s (assignment_of bs) x
+number_defined s x bs cs c f ts us n target operand is scope args at by h k =
+    number_false s c (ground_at s (assignment_of bs) f ts) (number s (assignment_of bs) n)
+    ((λ i. lacks_number s c (sym (at ∙ (λ j. ground_at s (assignment_of (scope j)) f (args j))) i) (sym (by ∙ (λ j. number s (assignment_of (scope j)) n)) i)) ∙ h)
+    (subst (NumberUndefined s (assignment_of bs)) is k)
 
 -- ---- loops over the effects
 
@@ -281,3 +254,32 @@ module _ (s : State) (fs : List Firing) (i : ℕ) (x : Firing) (within : i < len
       let P : Fired → Type 0 = λ f. ¬ OfFired NumberUndefined s f in
       subst (λ xs. Every P (meant_all xs)) (ap (λ y. take i fs ++ y ∷ []) at ∙ sym (take_more fs i x within))
       (subst (Every P) (sym (map-append meant (take i fs) (x ∷ []))) (every_push P (meant_all (take i fs)) (meant x) h k))
+
+-- the changes of the first effects, none of which lacks a number
+pub record NumbersSoFar (s : State) (fs : List Firing) (i : ℕ) (made : List MadeChange) : Type 0 where
+  pub value : map number_meant made ≡ of_firing number_change s (meant_all (take i fs))
+  pub defined : Every (λ f. ¬ OfFired NumberUndefined s f) (meant_all (take i fs))
+
+take_all : {X : Type 0} (i : ℕ) (xs : List X) → length xs ≤ i → take i xs ≡ xs
+take_all zero [] all = refl
+take_all (suc i) [] all = refl
+take_all zero (x ∷ xs) all = absurd (omega arith)
+take_all (suc i) (x ∷ xs) all = ap (λ ys. x ∷ ys) (take_all i xs (omega arith))
+
+module _ (s : State) (fs : List Firing) (i : ℕ) where
+  pub numbers_next : (x : Firing) (made next : List MadeChange) (item : Option MadeChange) → i < length fs → x ≡ get_or fs i x
+      → NumbersSoFar s fs i made → option_map number_meant item ≡ at_fired number_change s (meant x) → ¬ OfFired NumberUndefined s (meant x)
+      → next ≡ made ++ at_most_one item → NumbersSoFar s fs (i + 1) next
+  numbers_next x made next item within at h is defined more = record {
+    value = of_next_map number_change s number_meant fs i x made next item within at h.value is more;
+    defined = defined_next s fs i x within at h.defined defined;
+  }
+
+  pub numbers_value : (made : List MadeChange) → length fs ≤ i → NumbersSoFar s fs i made → map number_meant made ≡ of_firing number_change s (meant_all fs)
+  numbers_value made all h = h.value ∙ ap (λ xs. of_firing number_change s (meant_all xs)) (take_all i fs all)
+
+  pub numbers_defined : (made : List MadeChange) → length fs ≤ i → NumbersSoFar s fs i made → ¬ OfEffect NumberUndefined s (meant_all fs)
+  numbers_defined made all h =
+      none_of (OfFired NumberUndefined s) (meant_all fs) (subst (λ xs. Every (λ f. ¬ OfFired NumberUndefined s f) (meant_all xs)) (take_all i fs all) h.defined)
+
+pub ruleset of_effects = (numbers_value, numbers_defined)

@@ -1,5 +1,5 @@
 -- What the effects that take place lack and change, as a program finds it.
-use Rattle.std.specs.Prelude.{◌≡◌, ⊤, Bool, true, false, ◌&&◌, ◌||◌, is_none, ℤ, pos, List, [], ◌∷◌, map, Option, Some, None}
+use Rattle.std.specs.Prelude.{◌≡◌, ⊤, Bool, true, false, ◌&&◌, ◌||◌, is_none, ℤ, pos, zero, List, [], ◌∷◌, map, Option, Some, None}
 use Rattle.up_text.specs.declared.name.Name.{Name}
 use Rattle.up_frac.specs.Fraction.{Fraction}
 use Rattle.up_tree.specs.declared.action.Change.{Change}
@@ -44,7 +44,7 @@ needs_old change.ScaleUp = true
 needs_old change.ScaleDown = true
 
 abbrev pub is_zero : ℤ → Bool
-is_zero (pos 0) = true
+is_zero (pos zero) = true
 is_zero n = false
 
 -- a division by 0

@@ -1,5 +1,5 @@
 -- The effects that take place, as a program holds them.
-use Rattle.std.specs.Prelude.{◌≡◌, ⊤, List, [], ◌∷◌, ◌++◌, map, flat_map, filter_map}
+use Rattle.std.specs.Prelude.{◌≡◌, ⊤, List, [], ◌∷◌, ◌++◌, map, filter_map}
 use Rattle.up_text.specs.declared.name.Name.{Name}
 use Rattle.up_text.specs.Lists.{Every, Somewhere}
 use Rattle.up_tree.specs.declared.action.Row.{Row}
@@ -8,30 +8,20 @@ use Rattle.up_tree.specs.State.{State}
 use Rattle.up_tree.specs.Truth.{IsUndefined}
 use Rattle.up_tree.specs.Instances.{Instance, Fired, fired}
 use Rattle.up_tree.specs.Big.{BigFormula}
-use Rattle.up_eval.specs.declared.error.TruthError.{TruthError}
-use Rattle.up_eval.specs.declared.error.TruthError.TheVariants as error
 use Rattle.up_eval.specs.declared.firing.Firing.{Firing}
 use Rattle.up_eval.specs.declared.step_error.Why.TheVariants as why
 use Rattle.up_eval.specs.declared.stop.Stop.{Stop}
 use Rattle.up_eval.specs.declared.stop.Stop.TheVariants as stop
 use Rattle.up_eval.specs.Scope.{assignment_of}
 
-abbrev pub stop_of : TruthError → Stop
-stop_of error.Memory = stop.Memory
-stop_of error.TooLarge = stop.TooLarge
-
 abbrev pub meant : Firing → Fired
-meant f = record { assignment = assignment_of f.scope; effect = f.effect }
+meant f = record { assignment = assignment_of f.scope; effect = f.effect.now }
 
 abbrev pub meant_all : List Firing → List Fired
 meant_all fs = map meant fs
 
 abbrev pub instance_at : Assignment → Row → List Name → Instance
 instance_at e row tuple = record { assignment = assign row.vars tuple e; row = row }
-
--- the instances of a row at some tuples
-abbrev pub instances_at : Assignment → Row → List (List Name) → List Instance
-instances_at e row tuples = flat_map (λ tuple. instance_at e row tuple ∷ []) tuples
 
 -- the effects of the instances that fire stand behind those that were there, and no condition is undefined
 pub record HasFired (w : World) (s : State) (is : List Instance) (old new : List Fired) : Type 0 where

@@ -9,6 +9,8 @@ use Rattle.up_tree.specs.Objects.{World, action_named}
 use Rattle.up_tree.specs.State.{State}
 use Rattle.up_tree.specs.Big.{BigAction, IsBigStep}
 use Rattle.up_tree.specs.Faults as fault
+use Rattle.up_eval.specs.declared.error.TruthError.{TruthError}
+use Rattle.up_eval.specs.declared.error.TruthError.TheVariants as error
 use Rattle.up_eval.specs.declared.step_error.Why.{Why}
 use Rattle.up_eval.specs.declared.step_error.Why.TheVariants as why
 use Rattle.up_eval.specs.declared.step_error.StepError.{StepError}
@@ -68,6 +70,11 @@ abbrev pub IsStop : World → State → Action → List Name → Stop → Type 0
 IsStop w s a args stop.Memory = ⊤
 IsStop w s a args stop.TooLarge = BigAction w s a args
 IsStop w s a args (stop.Refused w') = fault.ActionApplies w s a args (fault_of w') × ActionHasNone w s a args (before w')
+
+-- what stops a look at a condition
+abbrev pub stop_of : TruthError → Stop
+stop_of error.Memory = stop.Memory
+stop_of error.TooLarge = stop.TooLarge
 
 abbrev pub error_of : Stop → StepError
 error_of stop.Memory = refused.Memory

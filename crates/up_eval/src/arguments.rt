@@ -1,6 +1,7 @@
-ghost use Rattle.std.specs.Prelude.{◌≡◌, IfOk, IfErr, OnOk, Some, is_some};
+ghost use Rattle.std.specs.Prelude.{◌≡◌, ◌&&◌, IfOk, IfErr, OnOk, Some, is_some};
 ghost use Rattle.std.specs.Option.{option_copied};
-ghost use Rattle.up_tree.specs.Objects.{world, named, action_named};
+ghost use Rattle.up_text.specs.Names.{same_name};
+ghost use Rattle.up_tree.specs.Objects.{world, named, is_below, action_named};
 ghost use Rattle.up_eval.specs.Arguments.{are_known, is_object_of, are_typed};
 ghost use Rattle.up_eval.specs.Steps.{Fits, IsUnfit};
 
@@ -8,71 +9,60 @@ use crate::step_error::StepError;
 use up_text::Name;
 use up_tree::{Action, Problem, Step, Typed};
 
-// The first action of a name.
 fn action_named<'a>(p: &'a Problem, name: &Name) -> Option<&'a Action>
     ensures { option_copied result ≡ action_named p.now name.now }
 {
-    for action in p.parts().actions.as_slice() {
-        if &action.name == name {
-            return Some(action);
-        }
-    }
-    None
+    let actions = p.parts().actions.as_slice();
+    actions.iter().find(|action| &action.name == name)
 }
 
-fn is_known(p: &Problem, object: &Name) -> bool
-    ensures { result ≡ is_some (named p.now.objects object.now) }
+fn object_named<'a>(p: &'a Problem, name: &Name) -> Option<&'a Typed>
+    ensures { option_copied result ≡ named p.now.objects name.now }
 {
-    for entry in p.parts().objects.as_slice() {
-        if &entry.name == object {
-            return true;
-        }
-    }
-    false
+    let objects = p.parts().objects.as_slice();
+    objects.iter().find(|object| &object.name == name)
 }
 
-// Whether each argument is an object of the problem.
+fn is_known(p: &Problem, name: &Name) -> bool
+    ensures { result ≡ is_some (named p.now.objects name.now) }
+{
+    object_named(p, name).is_some()
+}
+
 fn are_known(p: &Problem, args: &[Name]) -> bool
     ensures { result ≡ are_known (world p.now) args.now }
 {
-    for arg in args {
-        if !is_known(p, arg) {
-            return false;
-        }
-    }
-    true
+    args.iter().all(|arg| is_known(p, arg))
 }
 
-// Whether an object is of a type.
-fn is_object_of(p: &Problem, object: &Name, of: &Name) -> bool
-    ensures { result ≡ is_object_of (world p.now) of.now p.now.objects object.now }
+// Whether an object has the name, and stands at or below the type.
+fn is_named_below(p: &Problem, object: &Typed, name: &Name, of: &Name) -> bool
+    ensures { result ≡ (same_name object.now.name name.now && is_below (world p.now) object.now.of of.now) }
 {
-    for entry in p.parts().objects.as_slice() {
-        if &entry.name == object && p.is_below(&entry.of, of) {
-            return true;
-        }
-    }
-    false
+    &object.name == name && p.is_below(&object.of, of)
+}
+
+// Whether a type has an object of the name.
+fn is_object_of(p: &Problem, name: &Name, of: &Name) -> bool
+    ensures { result ≡ is_object_of (world p.now) of.now p.now.objects name.now }
+{
+    let objects = p.parts().objects.as_slice();
+    objects
+        .iter()
+        .any(|object| is_named_below(p, object, name, of))
 }
 
 // Whether each argument is of the type of the parameter at its place.
 fn are_typed(p: &Problem, args: &[Name], params: &[Typed]) -> bool
     ensures { result ≡ are_typed (world p.now) args.now params.now }
 {
-    let mut left = params;
-    for arg in args {
-        let Some((param, behind)) = left.split_first() else {
-            return true;
-        };
-        if !is_object_of(p, arg, &param.of) {
-            return false;
-        }
-        left = behind;
-    }
-    true
+    args.iter()
+        .zip(params)
+        .all(|(arg, param)| is_object_of(p, arg, &param.of))
 }
 
-/// The step's action, where its names are known and its arguments fit.
+/// The action that the step names, where each argument is known and they fit its parameters.
+#[tactic(auto, using(crate::proofs::Fitting::fitting))]
 pub(crate) fn fitting_action<'a>(p: &'a Problem, step: &Step) -> Result<&'a Action, StepError>
     ensures action { IfOk result (λ action. action_named p.now step.now.action ≡ Some action.now) }
     ensures fits { OnOk result (Fits p.now step.now) }

@@ -1,4 +1,4 @@
-ghost use Rattle.std.specs.Prelude.{◌≡◌, ◌++◌, false, IfOk, IfErr, OnOk, map, option_map, is_none, ◌||◌};
+ghost use Rattle.std.specs.Prelude.{◌≡◌, ◌++◌, false, true, IfOk, IfErr, OnOk, OnErr, Some, map, option_map, is_none, ◌||◌};
 ghost use Rattle.std.specs.List.{list_any};
 ghost use Rattle.up_tree.specs.Changes.{number_change, object_change, added, deleted, of_firing};
 ghost use Rattle.up_tree.specs.Faults.{OfEffect, NumberUndefined};
@@ -73,19 +73,6 @@ fn divides_by_zero(change: Change, operand: Frac) -> bool
     }
 }
 
-fn change_of(change: Change, target: Option<Ground>, operand: Option<Frac>) -> Option<NumberChange>
-    ensures { option_map number_meant result ≡ change_of change target operand }
-{
-    match (target, operand) {
-        (Some(target), Some(operand)) => Some(NumberChange {
-            target,
-            change,
-            operand,
-        }),
-        _ => None,
-    }
-}
-
 fn value_of(target: Option<Ground>, value: Option<Name>) -> Option<ObjectChange>
     ensures { option_map object_meant result ≡ value_of target value }
 {
@@ -106,11 +93,11 @@ fn assigned_value(target: Option<Ground>, value: Option<Name>) -> Option<ObjectC
 
 impl State {
     // Whether an argument of the effect or an assigned object is undefined.
-    fn lacks_object(&self, alloc: Global, fired: &Firing) -> Result<bool, Memory>
+    fn lacks_object(&self, alloc: Global, fired: &Firing<'_>) -> Result<bool, Memory>
         ensures { IfOk result (λ lacks. lacks ≡ at_fired lacks_object self.now (meant fired.now)) }
     {
         let scope = fired.scope.as_slice();
-        match &fired.effect {
+        match fired.effect {
             Effect::Add(name, args)
             | Effect::Delete(name, args)
             | Effect::Number(_, name, args, _)
@@ -129,7 +116,7 @@ impl State {
     pub(crate) fn lacks_some_object(
         &self,
         alloc: Global,
-        effects: &[Firing],
+        effects: &[Firing<'_>],
     ) -> Result<bool, Memory>
         ensures { IfOk result (λ lacks. lacks ≡ list_any (at_fired lacks_object self.now) (meant_all effects.now)) }
     {
@@ -141,23 +128,10 @@ impl State {
         Ok(false)
     }
 
-    fn lacks_old(&self, change: Change, target: &Option<Ground>) -> bool
-        ensures { result ≡ lacks_old self.now change target.now }
+    fn lacks_old(&self, change: Change, target: &Ground) -> bool
+        ensures { result ≡ lacks_old self.now change (Some target.now) }
     {
-        match target {
-            Some(target) => needs_old(change) && self.number_at(target).is_none(),
-            None => false,
-        }
-    }
-
-    // Whether a change of the target lacks a number that it needs.
-    fn lacks_number(&self, change: Change, target: &Option<Ground>, operand: Option<Frac>) -> bool
-        ensures { result ≡ lacks_number self.now change target.now operand }
-    {
-        match operand {
-            Some(operand) => divides_by_zero(change, operand) || self.lacks_old(change, target),
-            None => true,
-        }
+        needs_old(change) && self.number_at(target).is_none()
     }
 
     // The change, where no number that it needs is undefined.
@@ -169,22 +143,35 @@ impl State {
     ) -> Result<Option<NumberChange>, Stop>
         ensures value { IfOk result (λ c. option_map number_meant c ≡ change_of change target operand) }
         ensures defined { OnOk result (lacks_number self.now change target operand ≡ false) }
-        ensures lacks { IfErr result (λ e. lacks_number self.now change target operand ≡ true) }
+        ensures lacks { OnErr result (lacks_number self.now change target operand ≡ true) }
         ensures stop { IfErr result (λ e. e ≡ IsRefused OfNumber) }
     {
-        if self.lacks_number(change, &target, operand) {
+        let Some(operand) = operand else {
+            return Err(Stop::Refused(Why::NumberUndefined));
+        };
+        if divides_by_zero(change, operand) {
             return Err(Stop::Refused(Why::NumberUndefined));
         }
-        Ok(change_of(change, target, operand))
+        let Some(target) = target else {
+            return Ok(None);
+        };
+        if self.lacks_old(change, &target) {
+            return Err(Stop::Refused(Why::NumberUndefined));
+        }
+        Ok(Some(NumberChange {
+            target,
+            change,
+            operand,
+        }))
     }
 
     // The number that an effect changes, with its operand, if it is of that sort.
-    fn number_change(&self, alloc: Global, fired: &Firing) -> Result<Option<NumberChange>, Stop>
+    fn number_change(&self, alloc: Global, fired: &Firing<'_>) -> Result<Option<NumberChange>, Stop>
         ensures value { IfOk result (λ c. option_map number_meant c ≡ at_fired number_change self.now (meant fired.now)) }
         ensures defined { OnOk result (¬ OfFired NumberUndefined self.now (meant fired.now)) }
         ensures stop { IfErr result (IsNumberStop self.now (meant fired.now)) }
     {
-        let Effect::Number(change, name, args, operand) = &fired.effect else {
+        let Effect::Number(change, name, args, operand) = fired.effect else {
             return Ok(None);
         };
         let scope = fired.scope.as_slice();
@@ -197,7 +184,7 @@ impl State {
     pub(crate) fn number_changes(
         &self,
         alloc: Global,
-        effects: &[Firing],
+        effects: &[Firing<'_>],
     ) -> Result<List<NumberChange>, Stop>
         ensures value { IfOk result (λ changes. map number_meant changes ≡ of_firing number_change self.now (meant_all effects.now)) }
         ensures defined { OnOk result (¬ OfEffect NumberUndefined self.now (meant_all effects.now)) }
@@ -211,11 +198,15 @@ impl State {
     }
 
     // The object that an effect assigns or takes away, if it is of that sort.
-    fn object_change(&self, alloc: Global, fired: &Firing) -> Result<Option<ObjectChange>, Memory>
+    fn object_change(
+        &self,
+        alloc: Global,
+        fired: &Firing<'_>,
+    ) -> Result<Option<ObjectChange>, Memory>
         ensures { IfOk result (λ c. option_map object_meant c ≡ at_fired object_change self.now (meant fired.now)) }
     {
         let scope = fired.scope.as_slice();
-        match &fired.effect {
+        match fired.effect {
             Effect::Object(name, args, value) => {
                 let target = self.ground(alloc, scope, name, args.as_slice())?;
                 let value = self.value(alloc, scope, value)?;
@@ -233,7 +224,7 @@ impl State {
     pub(crate) fn object_changes(
         &self,
         alloc: Global,
-        effects: &[Firing],
+        effects: &[Firing<'_>],
     ) -> Result<List<ObjectChange>, Memory>
         ensures { IfOk result (λ changes. map object_meant changes ≡ of_firing object_change self.now (meant_all effects.now)) }
     {
@@ -244,10 +235,10 @@ impl State {
         Ok(changes)
     }
 
-    fn added_atom(&self, alloc: Global, fired: &Firing) -> Result<Option<Ground>, Memory>
+    fn added_atom(&self, alloc: Global, fired: &Firing<'_>) -> Result<Option<Ground>, Memory>
         ensures { IfOk result (λ atom. atom ≡ at_fired added self.now (meant fired.now)) }
     {
-        match &fired.effect {
+        match fired.effect {
             Effect::Add(name, args) => {
                 self.ground(alloc, fired.scope.as_slice(), name, args.as_slice())
             }
@@ -255,10 +246,10 @@ impl State {
         }
     }
 
-    fn deleted_atom(&self, alloc: Global, fired: &Firing) -> Result<Option<Ground>, Memory>
+    fn deleted_atom(&self, alloc: Global, fired: &Firing<'_>) -> Result<Option<Ground>, Memory>
         ensures { IfOk result (λ atom. atom ≡ at_fired deleted self.now (meant fired.now)) }
     {
-        match &fired.effect {
+        match fired.effect {
             Effect::Delete(name, args) => {
                 self.ground(alloc, fired.scope.as_slice(), name, args.as_slice())
             }
@@ -270,7 +261,7 @@ impl State {
     pub(crate) fn added_atoms(
         &self,
         alloc: Global,
-        effects: &[Firing],
+        effects: &[Firing<'_>],
     ) -> Result<List<Ground>, Memory>
         ensures { IfOk result (λ atoms. atoms ≡ of_firing added self.now (meant_all effects.now)) }
     {
@@ -285,7 +276,7 @@ impl State {
     pub(crate) fn deleted_atoms(
         &self,
         alloc: Global,
-        effects: &[Firing],
+        effects: &[Firing<'_>],
     ) -> Result<List<Ground>, Memory>
         ensures { IfOk result (λ atoms. atoms ≡ of_firing deleted self.now (meant_all effects.now)) }
     {

@@ -3,6 +3,7 @@
 
 mod arguments;
 mod changes;
+mod copies;
 mod error;
 mod firing;
 mod gathering;

@@ -31,7 +31,7 @@ pub(crate) struct Changes {
 }
 
 impl State {
-    fn new_numbers_of(&self, alloc: Global, effects: &[Firing]) -> Result<List<NewNumber>, Stop>
+    fn new_numbers_of(&self, alloc: Global, effects: &[Firing<'_>]) -> Result<List<NewNumber>, Stop>
         ensures value { IfOk result (λ news. news ≡ settled_numbers self.now (of_firing number_change self.now (meant_all effects.now))) }
         ensures defined { OnOk result (¬ OfEffect NumberUndefined self.now (meant_all effects.now)) }
         ensures apart { OnOk result (¬ NumbersConflict self.now (meant_all effects.now)) }
@@ -42,7 +42,11 @@ impl State {
         Ok(news)
     }
 
-    fn new_objects_of(&self, alloc: Global, effects: &[Firing]) -> Result<List<ObjectChange>, Stop>
+    fn new_objects_of(
+        &self,
+        alloc: Global,
+        effects: &[Firing<'_>],
+    ) -> Result<List<ObjectChange>, Stop>
         ensures value { IfOk result (λ changes. map object_meant changes ≡ of_firing object_change self.now (meant_all effects.now)) }
         ensures agree { OnOk result (Agree (of_firing object_change self.now (meant_all effects.now))) }
         ensures stop { IfErr result (IsNewObjectsStop self.now (meant_all effects.now)) }
@@ -56,7 +60,7 @@ impl State {
     fn with_atoms(
         &self,
         alloc: Global,
-        effects: &[Firing],
+        effects: &[Firing<'_>],
         numbers: List<NewNumber>,
         objects: List<ObjectChange>,
     ) -> Result<Changes, Memory>
@@ -76,7 +80,7 @@ impl State {
     }
 
     // What the effects change, where what they need is defined and they don't conflict.
-    fn changes_of(&self, alloc: Global, effects: &[Firing]) -> Result<Changes, Stop>
+    fn changes_of(&self, alloc: Global, effects: &[Firing<'_>]) -> Result<Changes, Stop>
         ensures value { IfOk result (λ c. state_with self.now c ≡ changed self.now (meant_all effects.now)) }
         ensures no_fault { OnOk result (HaveNoFault self.now (meant_all effects.now)) }
         ensures stop { IfErr result (IsEffectsStop self.now (meant_all effects.now)) }
@@ -117,6 +121,23 @@ impl State {
             Ok(changes) => Ok(changes),
             Err(stop) => Err(stop.error()),
         }
+    }
+
+    /// The state after a step (PDDL 2.1, Fox and Long 2003, section 8.1): a copy of this one with the step's changes.
+    ///
+    /// Every value is taken in this state. An atom that the step both deletes and adds holds after it.
+    ///
+    /// The errors come in the order of `StepError` and of `Why`. `TooLarge` comes only for a step of known names and fitting
+    /// arguments, where a value that it needs or leaves is past the bound; `Memory` where an allocation failed.
+    pub fn step(&self, alloc: Global, p: &Problem, step: &Step) -> Result<State, StepError>
+        ensures next { IfOk result (IsNext p.now self.now step.now) }
+        ensures can { OnOk result (CanTake p.now self.now step.now) }
+        ensures refused { IfErr result (IsRefusal p.now self.now step.now) }
+    {
+        let changes = self.changes(alloc, p, step)?;
+        let next = self.copy(alloc)?;
+        let next = next.changed(alloc, changes)?;
+        Ok(next)
     }
 
     /// The state after a step, in place of this one (PDDL 2.1, Fox and Long 2003, section 8.1).

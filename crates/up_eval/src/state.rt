@@ -69,6 +69,19 @@ impl State {
         self.values.get(term)
     }
 
+    pub(crate) fn copy(&self, alloc: Global) -> Result<State, Memory>
+        ensures { IfOk result (λ copy. copy ≡ self.now) }
+    {
+        let atoms = self.atoms.copy(alloc)?;
+        let numbers = self.numbers.copy(alloc)?;
+        let values = self.values.copy(alloc)?;
+        Ok(State {
+            atoms,
+            numbers,
+            values,
+        })
+    }
+
     /// The state with these changes.
     pub(crate) fn changed(self, alloc: Global, changes: Changes) -> Result<State, Memory>
         ensures { IfOk result (λ state. state ≡ state_with self changes) }

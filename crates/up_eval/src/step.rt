@@ -16,23 +16,21 @@ use up_tree::{Action, Problem, Truth};
 
 impl State {
     // The effects that take place, where the precondition is true and each condition is true or false.
-    pub(crate) fn effects(
+    pub(crate) fn effects<'e>(
         &self,
         alloc: Global,
         p: &Problem,
-        action: &Action,
+        action: &'e Action,
         args: &[Name],
-    ) -> Result<List<Firing>, Stop>
+    ) -> Result<List<Firing<'e>>, Stop>
         ensures effects { IfOk result (λ effects. meant_all effects ≡ firing (world p.now) self.now action.now args.now) }
         ensures none { OnOk result (ActionHasNone (world p.now) self.now action.now args.now (before OfObject)) }
         ensures stop { IfErr result (IsStop (world p.now) self.now action.now args.now) }
     {
-        let none = List::new(alloc);
-        let scope = assigned(alloc, action.params.as_slice(), args, none.as_slice())?;
+        let scope = assigned(alloc, action.params.as_slice(), args, &[])?;
         if self.truth_in(alloc, p, scope.as_slice(), &action.pre)? != Truth::True {
             return Err(Stop::Refused(Why::Precondition));
         }
-        let effects = self.fire(alloc, p, scope.as_slice(), action.rows.as_slice())?;
-        Ok(effects)
+        self.fire(alloc, p, scope.as_slice(), action.rows.as_slice())
     }
 }

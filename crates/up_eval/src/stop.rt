@@ -26,7 +26,7 @@ impl From<Memory> for Stop {
 
 impl From<TruthError> for Stop {
     ghost use Rattle.std.specs.Prelude.{◌≡◌};
-    ghost use Rattle.up_eval.specs.Firing.{stop_of};
+    ghost use Rattle.up_eval.specs.Steps.{stop_of};
 
     ghost from_gives = { λ error e. e ≡ stop_of error };
 

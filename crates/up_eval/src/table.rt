@@ -7,6 +7,7 @@ ghost use Rattle.up_eval.specs.Metrics.{IsPlainlyAt};
 ghost use Rattle.up_eval.specs.Gathering.{put_numbers, put_objects};
 
 use crate::changes::ObjectChange;
+use crate::copies::{atoms_copy, numbers_copy, values_copy};
 use crate::gathering::{NewNumber, value_copy};
 use crate::ground::Ground;
 use crate::plain::plain_entry;
@@ -63,7 +64,14 @@ impl Atoms {
         self.keys.remove(atom);
     }
 
+    pub(crate) fn copy(&self, alloc: Global) -> Result<Atoms, Memory>
+        ensures { IfOk result (λ copy. copy ≡ self.now) }
+    {
+        atoms_copy(alloc, &self.keys)
+    }
+
     /// The set without these atoms.
+    #[tactic(auto, using(crate::proofs::Maps::puts))]
     pub(crate) fn without(self, atoms: &[Ground]) -> Atoms
         ensures { result ≡ set.difference self (set.from_list atoms.now) }
     {
@@ -75,6 +83,7 @@ impl Atoms {
     }
 
     /// The set with these atoms.
+    #[tactic(auto, using(crate::proofs::Maps::puts))]
     pub(crate) fn with(self, atoms: List<Ground>) -> Result<Atoms, Memory>
         ensures { IfOk result (λ all. all ≡ set.union self (set.from_list atoms)) }
     {
@@ -147,7 +156,14 @@ impl<V: Drop> Table<V> {
 }
 
 impl Table<Frac> {
+    pub(crate) fn copy(&self, alloc: Global) -> Result<Table<Frac>, Memory>
+        ensures { IfOk result (λ copy. copy ≡ self.now) }
+    {
+        numbers_copy(alloc, &self.entries)
+    }
+
     /// The table with the new numbers, put in turn.
+    #[tactic(auto, using(crate::proofs::Maps::puts))]
     pub(crate) fn with_numbers(
         self,
         alloc: Global,
@@ -171,7 +187,14 @@ impl Table<Frac> {
 }
 
 impl Table<Name> {
+    pub(crate) fn copy(&self, alloc: Global) -> Result<Table<Name>, Memory>
+        ensures { IfOk result (λ copy. copy ≡ self.now) }
+    {
+        values_copy(alloc, &self.entries)
+    }
+
     /// The table with the new objects, put in turn.
+    #[tactic(auto, using(crate::proofs::Maps::puts))]
     pub(crate) fn with_objects(
         self,
         alloc: Global,
