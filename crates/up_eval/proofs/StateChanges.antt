@@ -147,7 +147,7 @@ module _ (w : World) (s : State) (a : Action) (args : List Name) (none : ActionH
   all_none h = by (subst (HaveNoFault s) is h)
     where
       by : HaveNoFault s (firing w s a args) → ActionHasNone w s a args all_faults
-      by k = (k.agree, k.apart, k.numbers, k.objects, none)
+      by k = (k.agree, (k.apart, (k.numbers, (k.objects, none))))
 
   pub action_stops : (e : Stop) → IsEffectsStop s fs e → IsStop w s a args e
   action_stops e h = by e (subst (λ xs. IsEffectsStop s xs e) is h)

@@ -85,12 +85,14 @@ impl State {
         ensures no_fault { OnOk result (HaveNoFault self.now (meant_all effects.now)) }
         ensures stop { IfErr result (IsEffectsStop self.now (meant_all effects.now)) }
     {
-        if self.lacks_some_object(alloc, effects)? {
+        let lacks = self.lacks_some_object(alloc, effects)?;
+        if lacks {
             return Err(Stop::Refused(Why::ObjectUndefined));
         }
         let numbers = self.new_numbers_of(alloc, effects)?;
         let objects = self.new_objects_of(alloc, effects)?;
-        Ok(self.with_atoms(alloc, effects, numbers, objects)?)
+        let changes = self.with_atoms(alloc, effects, numbers, objects)?;
+        Ok(changes)
     }
 
     // What the action changes, where it can be taken.

@@ -10,4 +10,4 @@ keys-init c = add_all-empty c.args.keys.now.keys ∙ (λ i. add_all (sym c.iter-
 pub keys-preserved : goal.keys-preserved
 keys-preserved c =
     c.keys.invariant
-    ∙ add_last_key c.keys.rest _ c.in-Some.key.now c.keys.copy _ c.in-Some.ensures (c.in_ok-insert.ensures ∙ ap (set.insert c.keys.copy) c.in_ok-copy.ensures)
+    ∙ add_last_key c.keys.rest _ c.in-Some.key.now c.keys.copy _ c.in-Some.ensures.steps (c.in_ok-insert.ensures ∙ ap (set.insert c.keys.copy) c.in_ok-copy.ensures)

@@ -10,5 +10,5 @@ entries-init c = put_all-empty c.args.entries.now.entries ∙ (λ i. put_all (sy
 pub entries-preserved : goal.entries-preserved
 entries-preserved c =
     c.entries.invariant
-    ∙ put_last_entry c.entries.rest _ (c.in-Some.term.now, c.in-Some.value.now) c.entries.copy _ c.in-Some.ensures
+    ∙ put_last_entry c.entries.rest _ (c.in-Some.term.now, c.in-Some.value.now) c.entries.copy _ c.in-Some.ensures.steps
     (c.in_ok-insert.ensures ∙ ap (λ k. table.insert c.entries.copy k c.in-Some.value.now) c.in_ok-copy.ensures)
