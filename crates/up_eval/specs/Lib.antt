@@ -4,3 +4,4 @@ pub mod Scope
 pub mod Numbers
 pub mod Conditions
 pub mod Metrics
+pub mod Steps
