@@ -5,3 +5,6 @@ pub mod Grounds
 pub mod Numbers
 pub mod Conditions
 pub mod Metrics
+pub mod Fitting
+pub mod Fired
+pub mod Steps

@@ -5,3 +5,5 @@ pub mod Numbers
 pub mod Conditions
 pub mod Metrics
 pub mod Steps
+pub mod Arguments
+pub mod Firing

@@ -1,13 +1,16 @@
 //! States of planning problems, and what conditions and metrics are in them.
 #![tactic(auto)]
 
+mod arguments;
 mod error;
+mod firing;
 mod ground;
 mod metric;
 mod number;
 mod plain;
 mod scope;
 mod state;
+mod step;
 mod step_error;
 mod stop;
 mod table;
