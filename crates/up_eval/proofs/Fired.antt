@@ -59,16 +59,13 @@ pub of_row : (e : Assignment) (row : Row) (tuple : List Name) (vars : List Typed
 of_row e row tuple vars scope slice at same is = ap assignment_of same ∙ is ∙ ap (λ vs. assign vs tuple e) at
 
 module _ (w : World) (s : State) where
-  pub none_fired : (old : List Fired) → HasFired w s [] old old
-  none_fired old = record { effects = sym (append_nil old); conditions = tt }
-
-  pub fired_append : (is js : List Instance) (a b c : List Fired) → HasFired w s is a b → HasFired w s js b c → HasFired w s (is ++ js) a c
+  fired_append : (is js : List Instance) (a b c : List Fired) → HasFired w s is a b → HasFired w s js b c → HasFired w s (is ++ js) a c
   fired_append is js a b c h k = record {
     effects = k.effects ∙ ap (λ fs. fs ++ filter_map (fired w s) js) h.effects ∙ append_assoc a _ _ ∙ ap (λ fs. a ++ fs) (sym (filter_map-append (fired w s) is js));
     conditions = every_append _ is js h.conditions k.conditions;
   }
 
-  pub stop_left : (is js : List Instance) (e : Stop) → IsConditionStop w s is e → IsConditionStop w s (is ++ js) e
+  stop_left : (is js : List Instance) (e : Stop) → IsConditionStop w s is e → IsConditionStop w s (is ++ js) e
   stop_left is js stop.Memory h = tt
   stop_left is js stop.TooLarge h = some_left _ is js h
   stop_left is js (stop.Refused why.ConditionUndefined) h = some_left _ is js h
@@ -78,7 +75,7 @@ module _ (w : World) (s : State) where
   stop_left is js (stop.Refused why.NumberConflict) h = absurd h
   stop_left is js (stop.Refused why.ObjectConflict) h = absurd h
 
-  pub stop_right : (is js : List Instance) (e : Stop) → IsConditionStop w s js e → IsConditionStop w s (is ++ js) e
+  stop_right : (is js : List Instance) (e : Stop) → IsConditionStop w s js e → IsConditionStop w s (is ++ js) e
   stop_right is js stop.Memory h = tt
   stop_right is js stop.TooLarge h = some_right _ is js h
   stop_right is js (stop.Refused why.ConditionUndefined) h = some_right _ is js h
@@ -87,10 +84,6 @@ module _ (w : World) (s : State) where
   stop_right is js (stop.Refused why.NumberUndefined) h = absurd h
   stop_right is js (stop.Refused why.NumberConflict) h = absurd h
   stop_right is js (stop.Refused why.ObjectConflict) h = absurd h
-
-  pub no_memory : {T : Type 0} (is : List Instance) (r : Result T Stop) → IsErrAnd r (λ e. e ≡ stop.Memory) → IfErr r (IsConditionStop w s is)
-  no_memory is (Ok x) h = tt
-  no_memory is (Err e) h = subst (IsConditionStop w s is) (sym h) tt
 
   -- ---- one instance
 
@@ -122,15 +115,6 @@ module _ (w : World) (s : State) where
     pub stops_undefined : Undefined ≡ truth_of w s inner row.when → IsConditionStop w s (instance_at e row tuple ∷ []) (stop.Refused why.ConditionUndefined)
     stops_undefined is = inl (judged w s (assign row.vars tuple e) row.when Undefined (here Undefined is))
 
-    stops_by : (cause : TruthError) → (cause ≡ error.TooLarge → BigFormula w s inner row.when) → IsConditionStop w s (instance_at e row tuple ∷ []) (stop_of cause)
-    stops_by error.Memory h = tt
-    stops_by error.TooLarge h = inl (subst (λ v. BigFormula w s v row.when) inside (h refl))
-
-    pub stops_large : {T : Type 0} (cause : TruthError) → (cause ≡ error.TooLarge → BigFormula w s inner row.when)
-        → (r : Result T Stop) → IsErrAnd r (λ e. e ≡ stop_of cause) → IfErr r (IsConditionStop w s (instance_at e row tuple ∷ []))
-    stops_large cause h (Ok x) is = tt
-    stops_large cause h (Err x) is = subst (IsConditionStop w s (instance_at e row tuple ∷ [])) (sym is) (stops_by cause h)
-
   -- ---- a loop over rows or tuples, each with its instances
 
   module _ {X : Type 0} (g : X → List Instance) where
@@ -146,7 +130,7 @@ module _ (w : World) (s : State) where
     stop_behind (suc k) [] e h = h
     stop_behind (suc k) (x ∷ xs) e h = stop_right (g x) (flat_map g xs) e (stop_behind k xs e h)
 
-    pub loop_stop : (xs : List X) (i : ℕ) (x : X) (e : Stop) → i < length xs → x ≡ get_or xs i x
+    loop_stop : (xs : List X) (i : ℕ) (x : X) (e : Stop) → i < length xs → x ≡ get_or xs i x
         → IsConditionStop w s (g x) e → IsConditionStop w s (flat_map g xs) e
     loop_stop xs i x e within at h =
         stop_behind i xs e (subst (λ ys. IsConditionStop w s (flat_map g ys) e) (sym (drop_next xs i x within at)) (stop_left (g x) (flat_map g (drop (i + 1) xs)) e h))

@@ -122,4 +122,4 @@ module _ (p : Parts) (step : Step) where
     pub all_fit : are_known (world p) step.args ≡ true → length step.args ≡ length a.params → are_typed (world p) step.args a.params ≡ true → Fits p step
     all_fit known same is s = ((λ h. typed_all (world p) step.args a.params is (applied_at s argument_type h)), (not_arity same s, (not_unknown known s, tt)))
 
-pub ruleset fitting = (unknown_action, unknown_object, wrong_arity, wrong_type, all_fit)
+pub ruleset fitting = (unknown_action, unknown_object)

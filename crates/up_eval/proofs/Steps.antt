@@ -60,12 +60,13 @@ module _ (w : World) (s : State) (a : Action) (args : List Name) where
     pub pre_fails : (t : Truth) → t ≡ truth_of w s e a.pre → t ≢ True → IsStop w s a args (stop.Refused why.Precondition)
     pre_fails t of n = not_true t (at_action t of) n
 
-    pub pre_holds : (t : Truth) → t ≡ truth_of w s e a.pre → t ≡ True → ¬ (¬ IsTrueIn w s (action_assignment a args) a.pre)
-    pre_holds t of holds n = n (at_action True (sym holds ∙ of))
-
   -- ---- the effects, where the precondition holds
 
-  module _ (holds : ¬ (¬ IsTrueIn w s (action_assignment a args) a.pre)) (e : Assignment) (is : e ≡ action_assignment a args) (rows : List Row) (are : rows ≡ a.rows) where
+  module _ (first : Assignment) (at : first ≡ action_assignment a args) (t : Truth) (of : t ≡ truth_of w s first a.pre) (so : t ≡ True)
+      (e : Assignment) (is : e ≡ action_assignment a args) (rows : List Row) (are : rows ≡ a.rows) where
+    holds : ¬ (¬ IsTrueIn w s (action_assignment a args) a.pre)
+    holds n = n (at_action first at True (sym so ∙ of))
+
     all_instances : flat_map (row_instances w e) rows ≡ instances w a args
     all_instances = ap (λ v. flat_map (row_instances w v) rows) is ∙ ap (λ rs. flat_map (row_instances w (action_assignment a args)) rs) are
 
