@@ -5,6 +5,9 @@ pub mod Grounds
 pub mod Numbers
 pub mod Conditions
 pub mod Metrics
+pub mod Fitting
+pub mod Fired
+pub mod Steps
 pub mod Stops
 pub mod OfEffects
 pub mod Gathered
