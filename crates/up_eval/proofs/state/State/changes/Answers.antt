@@ -31,4 +31,4 @@ returns-in-Err-clause-refused c =
     let s = c.args.self.now in
     subst (IsRefusal p s c.args.step.now) (sym c.error.ensures)
     (step_stops p s c.args.step.now c.in_ok-action.action.now c.in_ok-action.ensures.action c.in_ok-action.ensures.fits _
-    (subst (λ args. IsStop (world p) s c.in_ok-action.action.now args _) c.as_slice.ensures c.in-Err.ensures.stop))
+    (subst (λ args. IsStop (world p) s c.in_ok-action.action.now args c.in-Err.stop) c.as_slice.ensures c.in-Err.ensures.stop))
