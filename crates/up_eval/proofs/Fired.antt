@@ -43,11 +43,11 @@ some_right : {X : Type 0} (P : X → Type 0) (xs ys : List X) → Somewhere P ys
 some_right P [] ys h = h
 some_right P (x ∷ xs) ys h = inr (some_right P xs ys h)
 
-append_nil : {X : Type 0} (xs : List X) → xs ++ [] ≡ xs
+pub append_nil : {X : Type 0} (xs : List X) → xs ++ [] ≡ xs
 append_nil [] = refl
 append_nil (x ∷ xs) = ap (λ ys. x ∷ ys) (append_nil xs)
 
-take_all : {X : Type 0} (i : ℕ) (xs : List X) → length xs ≤ i → take i xs ≡ xs
+pub take_all : {X : Type 0} (i : ℕ) (xs : List X) → length xs ≤ i → take i xs ≡ xs
 take_all zero [] all = refl
 take_all (suc i) [] all = refl
 take_all zero (x ∷ xs) all = absurd (omega arith)

@@ -25,13 +25,11 @@ use Rattle.up_eval.specs.declared.stop.Stop.TheVariants as stop
 use Rattle.up_eval.specs.Numbers.{sum_of, difference_of}
 use Rattle.up_eval.specs.Effects.{number_meant, object_meant}
 use Rattle.up_eval.specs.Gathering.{is_shift, first_number, more_shifts, gathered_next, gathered_after, gathered_of, gathered_value, IsGatheredStop, IsMixed, AreApart, AreGathered, IsGatherStop, GathersMore, StopsAt, new_numbers, settled_numbers, first_value, Agree, AreFirst, TwoDiffer, IsObjectStop, FirstOfMore, DiffersFrom}
+use Rattle.up_eval.proofs.Initial.{tied, each}
+use Rattle.up_eval.proofs.Fired.{append_nil}
 use Rattle.up_eval.proofs.OfEffects.{every_push}
 
 -- ---- lists
-
-append_nil : {X : Type 0} (xs : List X) → xs ++ [] ≡ xs
-append_nil [] = refl
-append_nil (x ∷ xs) = ap (λ ys. x ∷ ys) (append_nil xs)
 
 some_within : {X : Type 0} (P : X → Type 0) (xs : List X) (x : X) (ys : List X) → P x → Somewhere P (xs ++ x ∷ ys)
 some_within P [] x ys h = inl h
@@ -55,10 +53,6 @@ take_through : {X : Type 0} (xs : List X) (x : X) (ys : List X) → take (suc (l
 take_through [] x ys = refl
 take_through (y ∷ xs) x ys = ap (λ zs. y ∷ zs) (take_through xs x ys)
 
-each : {X : Type 0} (P Q : X → Type 0) → ((x : X) → P x → Q x) → (xs : List X) → Every P xs → Every Q xs
-each P Q f [] all = tt
-each P Q f (x ∷ xs) all = (f x all.0, each P Q f xs all.1)
-
 pick : {X : Type 0} (P Q : X → Type 0) (xs : List X) → Every P xs → Somewhere Q xs → (x : X) × P x × Q x
 pick P Q [] all h = absurd h
 pick P Q (x ∷ xs) all (inl h) = (x, all.0, h)
@@ -75,9 +69,6 @@ passed p P (x ∷ xs) h = by (p x) refl (passed p P xs) h
     by false is rest h = inr (rest h)
 
 -- ---- the changes of one term
-
-tied : (q k : Ground) → is_at q k ≡ true → q ≡ k
-tied q k e = ground_ties q k ((Equal-is (ground_cmp q k)).0 e)
 
 own : (q : Ground) → is_at q q ≡ true
 own q = ap is_eq (tied_itself ground_total q)

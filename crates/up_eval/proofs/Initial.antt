@@ -19,7 +19,7 @@ use Rattle.up_tree.proofs.States.{ground_total, ground_ties}
 use Rattle.up_frac.specs.Fraction.{Fraction}
 use Rattle.up_eval.specs.Initial.{ground_atoms, number_entries, value_entries, put_all, add_all, IsOfWellFormed}
 
-tied : (q k : Ground) → eq_by_cmp ground_cmp q k ≡ true → q ≡ k
+pub tied : (q k : Ground) → eq_by_cmp ground_cmp q k ≡ true → q ≡ k
 tied q k e = ground_ties q k ((Equal-is (ground_cmp q k)).0 e)
 
 module _ {C : Type 0} (key : C → Ground) (P : Ground → Type 0) where
@@ -46,7 +46,7 @@ module _ {C X : Type 0} (key : C → Ground) (value : C → X) (P : Ground → X
       by true is rest e = subst (λ k. P k x) (sym (tied q (key c) is)) (subst (P (key c)) (ap (λ o. unwrap_or o x) e) all.0)
       by false is rest e = rest e
 
-each : {C : Type 0} (P Q : C → Type 0) → ((c : C) → P c → Q c) → (cs : List C) → Every P cs → Every Q cs
+pub each : {C : Type 0} (P Q : C → Type 0) → ((c : C) → P c → Q c) → (cs : List C) → Every P cs → Every Q cs
 each P Q f [] all = tt
 each P Q f (c ∷ cs) all = (f c all.0, each P Q f cs all.1)
 

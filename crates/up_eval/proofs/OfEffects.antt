@@ -30,6 +30,9 @@ use Rattle.up_eval.specs.declared.scope.Binding.{Binding}
 use Rattle.up_eval.specs.Scope.{assignment_of}
 use Rattle.up_eval.specs.Firing.{meant, meant_all}
 use Rattle.up_eval.specs.Effects.{at_fired, OfFired, at_most_one, lacks_object, lacks_number, lacks_old, needs_old, is_zero, divides_by_zero, number_meant, change_of, value_of, assigned_value, IsNumberStop, IsNumbersStop}
+use Rattle.up_eval.proofs.Conditions.{somewhere_at}
+use Rattle.up_eval.proofs.Fired.{take_all}
+use Rattle.up_eval.proofs.Steps.{none_of}
 
 -- ---- tests and facts of some element
 
@@ -51,19 +54,9 @@ module _ {X : Type 0} (p : X → Bool) (P : X → Type 0) where
       by false is rest e (inl h) = f x is h
       by false is rest e (inr h) = rest e h
 
-pub none_of : {X : Type 0} (P : X → Type 0) (xs : List X) → Every (λ x. ¬ P x) xs → ¬ Somewhere P xs
-none_of P [] h k = k
-none_of P (x ∷ xs) h (inl k) = h.0 k
-none_of P (x ∷ xs) h (inr k) = none_of P xs h.1 k
-
 pub every_push : {X : Type 0} (P : X → Type 0) (xs : List X) (x : X) → Every P xs → P x → Every P (xs ++ x ∷ [])
 every_push P [] x h k = (k, tt)
 every_push P (y ∷ xs) x h k = (h.0, every_push P xs x h.1 k)
-
-pub some_at : {X : Type 0} (P : X → Type 0) (xs : List X) (i : ℕ) (x : X) → i < length xs → P (get_or xs i x) → Somewhere P xs
-some_at P [] i x within h = absurd (omega arith)
-some_at P (y ∷ xs) zero x within h = inl h
-some_at P (y ∷ xs) (suc i) x within h = inr (some_at P xs i x (omega arith) h)
 
 pub some_map : {X Y : Type 0} (g : X → Y) (P : Y → Type 0) (xs : List X) → Somewhere (λ x. P (g x)) xs → Somewhere P (map g xs)
 some_map g P [] h = h
@@ -236,7 +229,7 @@ module _ {A : Type 0} (what : State → Assignment → Effect → Option A) (s :
 
 module _ (s : State) (fs : List Firing) (i : ℕ) (x : Firing) (within : i < length fs) (at : x ≡ get_or fs i x) where
   some_fired : (P : Fired → Type 0) → P (meant x) → Somewhere P (meant_all fs)
-  some_fired P h = some_map meant P fs (some_at (λ y. P (meant y)) fs i x within (subst (λ y. P (meant y)) at h))
+  some_fired P h = some_map meant P fs (somewhere_at (λ y. P (meant y)) fs i x within at h)
 
   pub numbers_stop : (e : Stop) → IsNumberStop s (meant x) e → IsNumbersStop s (meant_all fs) e
   numbers_stop stop.Memory h = tt
@@ -260,12 +253,6 @@ pub record NumbersSoFar (s : State) (fs : List Firing) (i : ℕ) (made : List Ma
   pub value : map number_meant made ≡ of_firing number_change s (meant_all (take i fs))
   pub defined : Every (λ f. ¬ OfFired NumberUndefined s f) (meant_all (take i fs))
 
-take_all : {X : Type 0} (i : ℕ) (xs : List X) → length xs ≤ i → take i xs ≡ xs
-take_all zero [] all = refl
-take_all (suc i) [] all = refl
-take_all zero (x ∷ xs) all = absurd (omega arith)
-take_all (suc i) (x ∷ xs) all = ap (λ ys. x ∷ ys) (take_all i xs (omega arith))
-
 module _ (s : State) (fs : List Firing) (i : ℕ) where
   pub numbers_next : (x : Firing) (made next : List MadeChange) (item : Option MadeChange) → i < length fs → x ≡ get_or fs i x
       → NumbersSoFar s fs i made → option_map number_meant item ≡ at_fired number_change s (meant x) → ¬ OfFired NumberUndefined s (meant x)
@@ -275,11 +262,6 @@ module _ (s : State) (fs : List Firing) (i : ℕ) where
     defined = defined_next s fs i x within at h.defined defined;
   }
 
-  pub numbers_value : (made : List MadeChange) → length fs ≤ i → NumbersSoFar s fs i made → map number_meant made ≡ of_firing number_change s (meant_all fs)
-  numbers_value made all h = h.value ∙ ap (λ xs. of_firing number_change s (meant_all xs)) (take_all i fs all)
-
   pub numbers_defined : (made : List MadeChange) → length fs ≤ i → NumbersSoFar s fs i made → ¬ OfEffect NumberUndefined s (meant_all fs)
   numbers_defined made all h =
       none_of (OfFired NumberUndefined s) (meant_all fs) (subst (λ xs. Every (λ f. ¬ OfFired NumberUndefined s f) (meant_all xs)) (take_all i fs all) h.defined)
-
-pub ruleset of_effects = (numbers_value, numbers_defined)

@@ -14,7 +14,6 @@ use Rattle.up_tree.specs.Instances.{Fired, firing}
 use Rattle.up_tree.specs.Changes.{NumberChange, ObjectChange, number_change, object_change, added, deleted, of_firing, changes_at, objects_at, new_number, new_object, put, changed}
 use Rattle.up_tree.specs.Faults as fault
 use Rattle.up_tree.specs.Big.{BigAction}
-use Rattle.up_tree.proofs.Steps.{ByAction}
 use Rattle.up_eval.specs.declared.changes.ObjectChange.{ObjectChange as FoundObject}
 use Rattle.up_eval.specs.declared.gathering.NewNumber.{NewNumber}
 use Rattle.up_eval.specs.declared.next.Changes.{Changes}
@@ -25,6 +24,7 @@ use Rattle.up_eval.specs.declared.stop.Stop.TheVariants as stop
 use Rattle.up_eval.specs.Effects.{object_meant, IsNumbersStop}
 use Rattle.up_eval.specs.Gathering.{settled_numbers, put_numbers, put_objects, first_value, Agree, AreApart, IsGatherStop, IsObjectStop}
 use Rattle.up_eval.specs.Steps.{IsRefusal, Fits, ActionHasNone, IsStop, before, all_faults, error_of, fault_of}
+use Rattle.up_eval.proofs.Fitting.{applies_at, applied_at}
 use Rattle.up_eval.proofs.Gathered.{no_two}
 use Rattle.up_eval.specs.Nexts.{state_with, HaveNoFault, IsNewNumbersStop, IsNewObjectsStop, IsEffectsStop}
 
@@ -166,49 +166,43 @@ module _ (w : World) (s : State) (a : Action) (args : List Name) (none : ActionH
 -- ---- of a step
 
 module _ (p : Parts) (s : State) (step : Step) (a : Action) (found : action_named p step.action ≡ Some a) where
-  applies_at : (f : fault.Fault) → fault.ActionApplies (world p) s a step.args f → fault.Applies p s step f
-  applies_at f h = subst (λ o. ByAction p s step.args o f) (sym found) h
-
-  applied_at : (f : fault.Fault) → fault.Applies p s step f → fault.ActionApplies (world p) s a step.args f
-  applied_at f h = subst (λ o. ByAction p s step.args o f) found h
-
   none_applies : (f : fault.Fault) → ¬ fault.ActionApplies (world p) s a step.args f → ¬ fault.Applies p s step f
-  none_applies f n h = n (applied_at f h)
+  none_applies f n h = n (applied_at p step a found s f h)
 
   module _ (fits : Fits p step) where
     pub can_take : ActionHasNone (world p) s a step.args all_faults → fault.CanTake p s step
     can_take none fault.unknown h = (fits s).1.1.0 h
     can_take none fault.arity h = (fits s).1.0 h
     can_take none fault.argument_type h = (fits s).0 h
-    can_take none fault.precondition h = none.1.1.1.1.1.0 (applied_at fault.precondition h)
-    can_take none fault.condition_undefined h = none.1.1.1.1.0 (applied_at fault.condition_undefined h)
-    can_take none fault.object_undefined h = none.1.1.1.0 (applied_at fault.object_undefined h)
-    can_take none fault.number_undefined h = none.1.1.0 (applied_at fault.number_undefined h)
-    can_take none fault.number_conflict h = none.1.0 (applied_at fault.number_conflict h)
-    can_take none fault.object_conflict h = none.0 (applied_at fault.object_conflict h)
+    can_take none fault.precondition h = none.1.1.1.1.1.0 (applied_at p step a found s fault.precondition h)
+    can_take none fault.condition_undefined h = none.1.1.1.1.0 (applied_at p step a found s fault.condition_undefined h)
+    can_take none fault.object_undefined h = none.1.1.1.0 (applied_at p step a found s fault.object_undefined h)
+    can_take none fault.number_undefined h = none.1.1.0 (applied_at p step a found s fault.number_undefined h)
+    can_take none fault.number_conflict h = none.1.0 (applied_at p step a found s fault.number_conflict h)
+    can_take none fault.object_conflict h = none.0 (applied_at p step a found s fault.object_conflict h)
 
     pub step_stops : (e : Stop) → IsStop (world p) s a step.args e → IsRefusal p s step (error_of e)
     step_stops stop.Memory h = tt
     step_stops stop.TooLarge h = ((fits s).1.1.0, (fits s).1.0, (fits s).0, subst (λ o. IsSomeAnd o (λ b. BigAction (world p) s b step.args)) (sym found) h)
-    step_stops (stop.Refused why.Precondition) h = record { applies = applies_at fault.precondition h.0; first = fits s }
+    step_stops (stop.Refused why.Precondition) h = record { applies = applies_at p step a found s fault.precondition h.0; first = fits s }
     step_stops (stop.Refused why.ConditionUndefined) h = record {
-      applies = applies_at fault.condition_undefined h.0;
+      applies = applies_at p step a found s fault.condition_undefined h.0;
       first = (none_applies fault.precondition h.1.0, fits s);
     }
     step_stops (stop.Refused why.ObjectUndefined) h = record {
-      applies = applies_at fault.object_undefined h.0;
+      applies = applies_at p step a found s fault.object_undefined h.0;
       first = (none_applies fault.condition_undefined h.1.0, (none_applies fault.precondition h.1.1.0, fits s));
     }
     step_stops (stop.Refused why.NumberUndefined) h = record {
-      applies = applies_at fault.number_undefined h.0;
+      applies = applies_at p step a found s fault.number_undefined h.0;
       first = (none_applies fault.object_undefined h.1.0, (none_applies fault.condition_undefined h.1.1.0, (none_applies fault.precondition h.1.1.1.0, fits s)));
     }
     step_stops (stop.Refused why.NumberConflict) h = record {
-      applies = applies_at fault.number_conflict h.0;
+      applies = applies_at p step a found s fault.number_conflict h.0;
       first = (none_applies fault.number_undefined h.1.0, (none_applies fault.object_undefined h.1.1.0, (none_applies fault.condition_undefined h.1.1.1.0, (none_applies fault.precondition h.1.1.1.1.0, fits s))));
     }
     step_stops (stop.Refused why.ObjectConflict) h = record {
-      applies = applies_at fault.object_conflict h.0;
+      applies = applies_at p step a found s fault.object_conflict h.0;
       first = (none_applies fault.number_conflict h.1.0, (none_applies fault.number_undefined h.1.1.0, (none_applies fault.object_undefined h.1.1.1.0, (none_applies fault.condition_undefined h.1.1.1.1.0, (none_applies fault.precondition h.1.1.1.1.1.0, fits s)))));
     }
 

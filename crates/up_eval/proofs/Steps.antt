@@ -27,7 +27,7 @@ use Rattle.up_eval.specs.Scope.{assignment_of}
 use Rattle.up_eval.specs.Firing.{HasFired, IsConditionStop, meant_all}
 use Rattle.up_eval.specs.Steps.{IsStop, ActionHasNone, before, stop_of}
 
-none_of : {X : Type 0} (P : X → Type 0) (xs : List X) → Every (λ x. ¬ P x) xs → ¬ Somewhere P xs
+pub none_of : {X : Type 0} (P : X → Type 0) (xs : List X) → Every (λ x. ¬ P x) xs → ¬ Somewhere P xs
 none_of P [] h k = k
 none_of P (x ∷ xs) h (inl k) = h.0 k
 none_of P (x ∷ xs) h (inr k) = none_of P xs h.1 k

@@ -1,4 +1,4 @@
-//! States of planning problems, and what conditions and metrics are in them.
+//! States of planning problems, what conditions and metrics are in them, and the state after a step.
 #![tactic(auto)]
 
 mod arguments;

@@ -125,7 +125,7 @@ impl State {
         }
     }
 
-    /// The state after a step (PDDL 2.1, Fox and Long 2003, section 8.1): a copy of this one with the step's changes.
+    /// The state after a step (PDDL 2.1, Fox and Long 2003): a copy of this one with the step's changes.
     ///
     /// Every value is taken in this state. An atom that the step both deletes and adds holds after it.
     ///
@@ -142,7 +142,7 @@ impl State {
         Ok(next)
     }
 
-    /// The state after a step, in place of this one (PDDL 2.1, Fox and Long 2003, section 8.1).
+    /// The state after a step, in place of this one (PDDL 2.1, Fox and Long 2003).
     ///
     /// Every value is taken in the state before. An atom that the step both deletes and adds holds after it. The memory that it takes
     /// grows with what the step changes, not with the state. The errors are those of `step`.
