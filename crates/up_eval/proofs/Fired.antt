@@ -1,5 +1,5 @@
 -- Effects that fire, instance by instance.
-use Rattle.std.proofs.Common.{◌≡◌, ◌⊎◌, ℕ, zero, suc, ◌+◌, ◌<◌, ◌≤◌, arith, List, [], ◌∷◌, ◌++◌, map, take, drop, get_or, length, Option, Some, None, refl, ap, sym, ◌∙◌, subst, inl, inr, append_assoc}
+use Rattle.std.proofs.Common.{◌≡◌, ℕ, zero, suc, ◌+◌, ◌<◌, ◌≤◌, arith, List, [], ◌∷◌, ◌++◌, map, take, drop, get_or, length, Some, None, refl, ap, sym, ◌∙◌, subst, inl, inr, append_assoc}
 use Rattle.std.specs.List.{cons_option}
 use Rattle.std.specs.Prelude.{if◌then◌else◌, flat_map, filter_map, Result, Ok, Err, IfErr, IsErrAnd}
 use Rattle.std.proofs.lemmas.List.{map-append, take_more}
@@ -13,13 +13,9 @@ use Rattle.up_tree.specs.declared.truth.Truth.{Truth}
 use Rattle.up_tree.specs.declared.truth.Truth.TheVariants.{True, False, Undefined}
 use Rattle.up_tree.specs.Objects.{World, Assignment, assign, tuples}
 use Rattle.up_tree.specs.State.{State}
-use Rattle.up_tree.specs.Truth.{IsUndefined}
 use Rattle.up_tree.specs.Judged.{truth_of, is_true}
 use Rattle.up_tree.specs.Instances.{Instance, Fired, fired, row_instances}
-use Rattle.up_tree.specs.Big.{BigFormula}
 use Rattle.up_tree.proofs.Judging.{judged}
-use Rattle.up_eval.specs.declared.error.TruthError.{TruthError}
-use Rattle.up_eval.specs.declared.error.TruthError.TheVariants as error
 use Rattle.up_eval.specs.declared.firing.Firing.{Firing}
 use Rattle.up_eval.specs.declared.scope.Binding.{Binding}
 use Rattle.up_eval.specs.declared.step_error.Why.TheVariants as why
@@ -27,7 +23,6 @@ use Rattle.up_eval.specs.declared.stop.Stop.{Stop}
 use Rattle.up_eval.specs.declared.stop.Stop.TheVariants as stop
 use Rattle.up_eval.specs.Scope.{assignment_of}
 use Rattle.up_eval.specs.Firing.{HasFired, IsConditionStop, instance_at, meant, meant_all}
-use Rattle.up_eval.specs.Steps.{stop_of}
 use Rattle.up_eval.proofs.Scopes.{drop_next}
 
 every_append : {X : Type 0} (P : X → Type 0) (xs ys : List X) → Every P xs → Every P ys → Every P (xs ++ ys)

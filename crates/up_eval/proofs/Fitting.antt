@@ -1,7 +1,6 @@
 -- What the tests of a step's arguments tell.
 use Rattle.std.proofs.Common.{◌≡◌, ◌⊎◌, Bool, true, false, true≢false, cond, ◌&&◌, ◌||◌, List, [], ◌∷◌, map, filter, length, Option, Some, None, refl, ap, sym, ◌∙◌, subst, inl, inr}
 use Rattle.std.specs.Prelude.{◌≢◌, zip, is_some}
-use Rattle.std.specs.List.{list_any}
 use Rattle.std.specs.Cmp.Lexicographic.{bytes_decides}
 use Rattle.up_text.specs.declared.name.Name.{Name}
 use Rattle.up_text.specs.Names.{same_name}
@@ -45,7 +44,7 @@ module _ (w : World) (t o : Name) where
       by false is false h m = h m
 
 module _ (w : World) where
-  pub known_all : (args : List Name) → are_known w args ≡ true → ¬ Somewhere (λ o. named w.objects o ≡ None) args
+  known_all : (args : List Name) → are_known w args ≡ true → ¬ Somewhere (λ o. named w.objects o ≡ None) args
   known_all [] e h = h
   known_all (a ∷ args) e h = by (named w.objects a) refl (known_all args) e h
     where
@@ -55,7 +54,7 @@ module _ (w : World) where
       by (Some x) is rest e (inl none) = true≢false (ap is_some (sym is ∙ none))
       by (Some x) is rest e (inr h) = rest e h
 
-  pub unknown_one : (args : List Name) → are_known w args ≡ false → Somewhere (λ o. named w.objects o ≡ None) args
+  unknown_one : (args : List Name) → are_known w args ≡ false → Somewhere (λ o. named w.objects o ≡ None) args
   unknown_one [] e = absurd (true≢false e)
   unknown_one (a ∷ args) e = by (named w.objects a) refl (unknown_one args) e
     where
@@ -64,7 +63,7 @@ module _ (w : World) where
       by None is rest e = inl is
       by (Some x) is rest e = inr (rest e)
 
-  pub typed_all : (args : List Name) (params : List Typed) → are_typed w args params ≡ true → ¬ Somewhere (λ pair. ¬ Member pair.0 (objects_of w pair.1.of)) (zip args params)
+  typed_all : (args : List Name) (params : List Typed) → are_typed w args params ≡ true → ¬ Somewhere (λ pair. ¬ Member pair.0 (objects_of w pair.1.of)) (zip args params)
   typed_all [] params e h = h
   typed_all (a ∷ args) [] e h = h
   typed_all (a ∷ args) (v ∷ params) e h = by (is_object_of w v.of w.objects a) refl (typed_all args params) e h
@@ -76,7 +75,7 @@ module _ (w : World) where
       by true is rest e (inr h) = rest e h
       by false is rest e h = true≢false (sym e)
 
-  pub untyped_one : (args : List Name) (params : List Typed) → are_typed w args params ≡ false → Somewhere (λ pair. ¬ Member pair.0 (objects_of w pair.1.of)) (zip args params)
+  untyped_one : (args : List Name) (params : List Typed) → are_typed w args params ≡ false → Somewhere (λ pair. ¬ Member pair.0 (objects_of w pair.1.of)) (zip args params)
   untyped_one [] params e = absurd (true≢false e)
   untyped_one (a ∷ args) [] e = absurd (true≢false e)
   untyped_one (a ∷ args) (v ∷ params) e = by (is_object_of w v.of w.objects a) refl (untyped_one args params) e
@@ -94,10 +93,10 @@ module _ (p : Parts) (step : Step) where
   unknown_action is s = record { applies = subst (λ found. ByAction p s step.args found unknown) (sym is) tt; first = tt }
 
   module _ (a : Action) (found : action_named p step.action ≡ Some a) where
-    pub applies_at : (s : State) (fault : Fault) → ActionApplies (world p) s a step.args fault → Applies p s step fault
+    applies_at : (s : State) (fault : Fault) → ActionApplies (world p) s a step.args fault → Applies p s step fault
     applies_at s fault h = subst (λ o. ByAction p s step.args o fault) (sym found) h
 
-    pub applied_at : (s : State) (fault : Fault) → Applies p s step fault → ActionApplies (world p) s a step.args fault
+    applied_at : (s : State) (fault : Fault) → Applies p s step fault → ActionApplies (world p) s a step.args fault
     applied_at s fault h = subst (λ o. ByAction p s step.args o fault) found h
 
     pub unknown_object : are_known (world p) step.args ≡ false → IsUnfit p step refused.Unknown

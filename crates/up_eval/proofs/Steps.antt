@@ -1,5 +1,5 @@
 -- The effects of an action that take place, and what stops them.
-use Rattle.std.proofs.Common.{◌≡◌, ◌⊎◌, List, [], ◌∷◌, map, refl, ap, sym, ◌∙◌, subst, inl, inr}
+use Rattle.std.proofs.Common.{◌≡◌, List, [], ◌∷◌, refl, ap, sym, ◌∙◌, subst, inl, inr}
 use Rattle.std.specs.Prelude.{◌≢◌, flat_map, Result, Ok, Err, IfOk, IfErr, OnOk, IsErrAnd}
 use Rattle.up_text.specs.declared.name.Name.{Name}
 use Rattle.up_text.specs.Lists.{Every, Somewhere}
@@ -10,9 +10,9 @@ use Rattle.up_tree.specs.declared.action.Row.{Row}
 use Rattle.up_tree.specs.declared.term.Typed.{Typed}
 use Rattle.up_tree.specs.Objects.{World, Assignment, assign, unassigned}
 use Rattle.up_tree.specs.State.{State}
-use Rattle.up_tree.specs.Truth.{True as IsTrueIn, IsUndefined}
+use Rattle.up_tree.specs.Truth.{True as IsTrueIn}
 use Rattle.up_tree.specs.Judged.{truth_of, Judges}
-use Rattle.up_tree.specs.Instances.{Instance, Fired, row_instances, instances, firing, action_assignment}
+use Rattle.up_tree.specs.Instances.{Fired, row_instances, instances, firing, action_assignment}
 use Rattle.up_tree.specs.Big.{BigFormula}
 use Rattle.up_tree.proofs.Apart.{apart}
 use Rattle.up_tree.proofs.Judging.{judged}
@@ -33,10 +33,6 @@ none_of P (x ∷ xs) h (inl k) = h.0 k
 none_of P (x ∷ xs) h (inr k) = none_of P xs h.1 k
 
 module _ (w : World) (s : State) (a : Action) (args : List Name) where
-  pub no_memory : {T : Type 0} (r : Result T Stop) → IsErrAnd r (λ e. e ≡ stop.Memory) → IfErr r (IsStop w s a args)
-  no_memory (Ok x) h = tt
-  no_memory (Err e) h = subst (IsStop w s a args) (sym h) tt
-
   -- ---- the precondition
 
   module _ (e : Assignment) (is : e ≡ action_assignment a args) where

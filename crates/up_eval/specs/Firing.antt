@@ -1,5 +1,5 @@
 -- The effects that take place, as a program holds them.
-use Rattle.std.specs.Prelude.{◌≡◌, ⊤, List, [], ◌∷◌, ◌++◌, map, filter_map}
+use Rattle.std.specs.Prelude.{◌≡◌, ⊤, List, ◌++◌, map, filter_map}
 use Rattle.up_text.specs.declared.name.Name.{Name}
 use Rattle.up_text.specs.Lists.{Every, Somewhere}
 use Rattle.up_tree.specs.declared.action.Row.{Row}

@@ -1,11 +1,11 @@
 -- Why a step is refused.
-use Rattle.std.specs.Prelude.{◌≡◌, ⊤, List, [], ◌∷◌, Some}
+use Rattle.std.specs.Prelude.{⊤, List, [], ◌∷◌}
 use Rattle.up_text.specs.declared.name.Name.{Name}
 use Rattle.up_text.specs.Lists.{Every}
 use Rattle.up_tree.specs.declared.action.Action.{Action}
 use Rattle.up_tree.specs.declared.problem.Parts.{Parts}
 use Rattle.up_tree.specs.declared.problem.Step.{Step}
-use Rattle.up_tree.specs.Objects.{World, action_named}
+use Rattle.up_tree.specs.Objects.{World}
 use Rattle.up_tree.specs.State.{State}
 use Rattle.up_tree.specs.Big.{BigAction, IsBigStep}
 use Rattle.up_tree.specs.Faults as fault

@@ -3,7 +3,6 @@ ghost use Rattle.up_tree.specs.Objects.{world};
 ghost use Rattle.up_tree.specs.Instances.{firing};
 ghost use Rattle.up_eval.specs.Firing.{meant_all};
 ghost use Rattle.up_eval.specs.Steps.{ActionHasNone, IsStop, before};
-ghost use Rattle.up_eval.specs.declared.step_error.Why.TheVariants.{ObjectUndefined as OfObject};
 
 use crate::firing::Firing;
 use crate::scope::assigned;
@@ -24,7 +23,7 @@ impl State {
         args: &[Name],
     ) -> Result<List<Firing<'e>>, Stop>
         ensures effects { IfOk result (λ effects. meant_all effects ≡ firing (world p.now) self.now action.now args.now) }
-        ensures none { OnOk result (ActionHasNone (world p.now) self.now action.now args.now (before OfObject)) }
+        ensures none { OnOk result (ActionHasNone (world p.now) self.now action.now args.now (before Why.ObjectUndefined)) }
         ensures stop { IfErr result (IsStop (world p.now) self.now action.now args.now) }
     {
         let scope = assigned(alloc, action.params.as_slice(), args, &[])?;
