@@ -216,6 +216,7 @@ impl State {
     }
 
     /// The new number of each change's target, where the changes of each can be made together.
+    #[tactic(auto, using(crate::proofs::Gathered::settles))]
     pub(crate) fn settled(
         &self,
         alloc: Global,
