@@ -19,7 +19,7 @@ use Rattle.up_tree.proofs.States.{ground_total, ground_ties}
 use Rattle.up_frac.specs.Fraction.{Fraction}
 use Rattle.up_eval.specs.Initial.{ground_atoms, number_entries, value_entries, put_all, add_all, IsOfWellFormed}
 
-tied : (q k : Ground) → eq_by_cmp ground_cmp q k ≡ true → q ≡ k
+pub tied : (q k : Ground) → eq_by_cmp ground_cmp q k ≡ true → q ≡ k
 tied q k e = ground_ties q k ((Equal-is (ground_cmp q k)).0 e)
 
 module _ {C : Type 0} (key : C → Ground) (P : Ground → Type 0) where
@@ -46,7 +46,7 @@ module _ {C X : Type 0} (key : C → Ground) (value : C → X) (P : Ground → X
       by true is rest e = subst (λ k. P k x) (sym (tied q (key c) is)) (subst (P (key c)) (ap (λ o. unwrap_or o x) e) all.0)
       by false is rest e = rest e
 
-each : {C : Type 0} (P Q : C → Type 0) → ((c : C) → P c → Q c) → (cs : List C) → Every P cs → Every Q cs
+pub each : {C : Type 0} (P Q : C → Type 0) → ((c : C) → P c → Q c) → (cs : List C) → Every P cs → Every Q cs
 each P Q f [] all = tt
 each P Q f (c ∷ cs) all = (f c all.0, each P Q f cs all.1)
 
@@ -82,6 +82,13 @@ put_all-push (x ∷ es) e m = ap (λ n. table.insert n x.0 x.1) (put_all-push es
 add_all-push : (ks : List Ground) (k : Ground) (s : set.FinSet ground_cmp) → add_all (ks ++ k ∷ []) s ≡ add_all ks (set.insert s k)
 add_all-push [] k s = refl
 add_all-push (x ∷ ks) k s = ap (λ t. set.insert t x) (add_all-push ks k s)
+
+pub add_last_key : (left before : List Ground) (k : Ground) (s t : set.FinSet ground_cmp) → left ≡ before ++ k ∷ [] → t ≡ set.insert s k → add_all left s ≡ add_all before t
+add_last_key left before k s t split is = ap (λ ks. add_all ks s) split ∙ add_all-push before k s ∙ ap (add_all before) (sym is)
+
+pub put_last_entry : {X : Type 0} (left before : List (Ground × X)) (e : Ground × X) (m n : table.FinMap ground_cmp X) → left ≡ before ++ e ∷ [] → n ≡ table.insert m e.0 e.1
+    → put_all left m ≡ put_all before n
+put_last_entry left before e m n split is = ap (λ es. put_all es m) split ∙ put_all-push before e m ∙ ap (put_all before) (sym is)
 
 map-push : {A B : Type 0} (f : A → B) (xs : List A) (x : A) → map f (xs ++ x ∷ []) ≡ map f xs ++ f x ∷ []
 map-push f [] x = refl

@@ -5,3 +5,10 @@ pub mod Grounds
 pub mod Numbers
 pub mod Conditions
 pub mod Metrics
+pub mod Fitting
+pub mod Fired
+pub mod Steps
+pub mod Stops
+pub mod OfEffects
+pub mod Gathered
+pub mod StateChanges

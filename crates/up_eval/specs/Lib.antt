@@ -4,3 +4,9 @@ pub mod Scope
 pub mod Numbers
 pub mod Conditions
 pub mod Metrics
+pub mod Firing
+pub mod Steps
+pub mod Arguments
+pub mod Effects
+pub mod Gathering
+pub mod Nexts

@@ -1,13 +1,22 @@
-//! States of planning problems, and what conditions and metrics are in them.
+//! States of planning problems, what conditions and metrics are in them, and the state after a step.
 #![tactic(auto)]
 
+mod arguments;
+mod changes;
+mod copies;
 mod error;
+mod firing;
+mod gathering;
 mod ground;
 mod metric;
+mod next;
 mod number;
 mod plain;
 mod scope;
 mod state;
+mod step;
+mod step_error;
+mod stop;
 mod table;
 mod truth;
 mod value;
@@ -15,4 +24,5 @@ mod value;
 pub use error::{TooLarge, TruthError};
 pub use metric::Value;
 pub use state::State;
+pub use step_error::{StepError, Why};
 pub use up_tree::Truth;

@@ -4,9 +4,11 @@ ghost use Rattle.std.specs.FinSet as set;
 ghost use Rattle.up_tree.specs.State.{init, number_at, object_at};
 ghost use Rattle.up_eval.specs.Initial.{ground_atoms, number_entries, value_entries, IsOfWellFormed};
 ghost use Rattle.up_eval.specs.Metrics.{IsPlainFluent};
+ghost use Rattle.up_eval.specs.Nexts.{state_with};
 ghost use Rattle.std.specs.FinMap as table;
 
 use crate::ground::Ground;
+use crate::next::Changes;
 use crate::table::{Atoms, Table};
 use std::alloc::Global;
 use std::marker::Model;
@@ -65,6 +67,40 @@ impl State {
         ensures { option_copied result ≡ object_at self.now term.now }
     {
         self.values.get(term)
+    }
+
+    pub(crate) fn copy(&self, alloc: Global) -> Result<State, Memory>
+        ensures { IfOk result (λ copy. copy ≡ self.now) }
+    {
+        let atoms = self.atoms.copy(alloc)?;
+        let numbers = self.numbers.copy(alloc)?;
+        let values = self.values.copy(alloc)?;
+        Ok(State {
+            atoms,
+            numbers,
+            values,
+        })
+    }
+
+    /// The state with these changes.
+    pub(crate) fn changed(self, alloc: Global, changes: Changes) -> Result<State, Memory>
+        ensures { IfOk result (λ state. state ≡ state_with self changes) }
+    {
+        let State {
+            atoms,
+            numbers,
+            values,
+        } = self;
+        let atoms = atoms
+            .without(changes.deleted.as_slice())
+            .with(changes.added)?;
+        let numbers = numbers.with_numbers(alloc, changes.numbers.as_slice())?;
+        let values = values.with_objects(alloc, changes.objects.as_slice())?;
+        Ok(State {
+            atoms,
+            numbers,
+            values,
+        })
     }
 }
 
