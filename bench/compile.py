@@ -9,23 +9,7 @@ import tempfile
 
 sys.dont_write_bytecode = True
 from measure import measured, program
-
-DOMAIN = """(define (domain roads)
-  (:predicates (road ?a ?b) (at ?a))
-  (:action drive :parameters (?a ?b)
-    :precondition (and (road ?a ?b) (at ?a))
-    :effect (and (at ?b) (not (at ?a)))))
-"""
-
-
-def problem(facts, objects):
-    """A ring of roads with chords: `facts` different facts over `objects` places."""
-    names = [f"place-{k}" for k in range(objects)]
-    roads = [f"(road {names[k % objects]} {names[(k + 1 + k // objects) % objects]})" for k in range(facts - 1)]
-    return (
-        f"(define (problem ring) (:domain roads)\n (:objects {' '.join(names)})\n (:init (at place-0)\n  "
-        + "\n  ".join(roads) + f")\n (:goal (at {names[-1]})))\n"
-    )
+from roads import DOMAIN, problem
 
 
 def main():
@@ -36,7 +20,7 @@ def main():
         write("d", DOMAIN)
         write("e", 'name = "strips"\nfeatures = ["ACTION_PARAMETERS"]\n')
         for facts in (10_000, 100_000):
-            size = write("p", problem(facts, facts // 10)) + len(DOMAIN)
+            size = write("p", problem(facts, facts // 10, facts // 10 - 1)) + len(DOMAIN)
             seconds, peak, _ = measured(compiler, ["compile", "d", "p", "e", "od", "op", "m"], folder)
             rows.append((facts, size, seconds, peak))
             print(f"{facts:>7} facts: {size / 1e6:6.2f} MB of input, {size / 1e6 / seconds:7.2f} MB/s, "

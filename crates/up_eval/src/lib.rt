@@ -23,6 +23,7 @@ mod value;
 
 pub use error::{TooLarge, TruthError};
 pub use metric::Value;
+pub use scope::{Binding, assigned, tuples};
 pub use state::State;
 pub use step_error::{StepError, Why};
 pub use up_tree::Truth;

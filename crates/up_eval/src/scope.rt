@@ -9,9 +9,9 @@ use up_tree::{Problem, Typed};
 
 /// A variable with its object.
 #[derive(Debug, Drop)]
-pub(crate) struct Binding {
-    pub(crate) variable: Name,
-    pub(crate) object: Name,
+pub struct Binding {
+    pub variable: Name,
+    pub object: Name,
 }
 
 impl Binding {
@@ -58,8 +58,8 @@ fn copies(alloc: Global, scope: &[Binding]) -> Result<List<Binding>, Memory>
     Ok(copies)
 }
 
-/// The scope with each variable bound to the object at its place.
-pub(crate) fn assigned(
+/// The scope with each variable bound to the object at its place, as far as both lists go.
+pub fn assigned(
     alloc: Global,
     vars: &[Typed],
     objects: &[Name],
@@ -135,11 +135,7 @@ fn products(
 }
 
 /// The lists with an object of each variable's type at its place, the last place varying fastest.
-pub(crate) fn tuples(
-    alloc: Global,
-    problem: &Problem,
-    vars: &[Typed],
-) -> Result<List<List<Name>>, Memory>
+pub fn tuples(alloc: Global, problem: &Problem, vars: &[Typed]) -> Result<List<List<Name>>, Memory>
     ensures { IfOk result (λ them. them ≡ tuples (world problem.now) vars.now) }
 {
     let Some((var, others)) = vars.split_first() else {

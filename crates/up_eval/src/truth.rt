@@ -32,10 +32,10 @@ impl State {
         Ok(truth)
     }
 
-    /// What a condition is where variables have objects.
+    /// What a condition is where variables have objects, as [`State::truth`] says it.
     #[cycle(truth)]
     #[tactic(auto, using(crate::proofs::Conditions::truths))]
-    pub(crate) fn truth_in(
+    pub fn truth_in(
         &self,
         alloc: Global,
         problem: &Problem,

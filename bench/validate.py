@@ -1,0 +1,38 @@
+#!/usr/bin/env python3
+"""How `validate` grows with a plan: on a STRIPS problem of 10,000 facts, plans of 10,000 and 20,000 steps, and a
+plan of 10,000 steps beside 100,000 facts. Prints seconds, steps a second, and how both grow as ratios.
+
+It stands outside the gate. Build the program first: any call of ./nadvorzet does so."""
+import os
+import sys
+import tempfile
+
+sys.dont_write_bytecode = True
+from measure import measured, program
+from roads import DOMAIN, problem
+
+
+def plan(steps, places):
+    """Round the ring of `places`, road by road."""
+    return "".join(f"(drive place-{k % places} place-{(k + 1) % places})\n" for k in range(steps))
+
+
+def main():
+    compiler = program("up_main")
+    times = []
+    with tempfile.TemporaryDirectory() as folder:
+        write = lambda name, text: open(os.path.join(folder, name), "w").write(text)
+        write("d", DOMAIN)
+        for facts, steps in ((10_000, 10_000), (10_000, 20_000), (100_000, 10_000)):
+            places = facts // 10
+            write("p", problem(facts, places, steps % places))
+            write("plan", plan(steps, places))
+            seconds, _, answer = measured(compiler, ["validate", "d", "p", "plan"], folder)
+            if answer != b"valid\n":
+                sys.exit(f"{facts} facts, {steps} steps: {answer!r}")
+            times.append(seconds)
+            print(f"{facts:>7} facts, {steps} steps: {seconds:6.2f} s, {steps / seconds:8.0f} steps/s")
+    print(f"twice the steps: {times[1] / times[0]:.1f} times; ten times the facts: {times[2] / times[0]:.1f} times")
+
+
+main()

@@ -1,0 +1,4 @@
+pub mod Watching
+pub mod Verdicts
+pub mod Watches
+pub mod Runs
