@@ -93,10 +93,10 @@ module _ (p : Parts) (step : Step) where
   unknown_action is s = record { applies = subst (λ found. ByAction p s step.args found unknown) (sym is) tt; first = tt }
 
   module _ (a : Action) (found : action_named p step.action ≡ Some a) where
-    applies_at : (s : State) (fault : Fault) → ActionApplies (world p) s a step.args fault → Applies p s step fault
+    pub applies_at : (s : State) (fault : Fault) → ActionApplies (world p) s a step.args fault → Applies p s step fault
     applies_at s fault h = subst (λ o. ByAction p s step.args o fault) (sym found) h
 
-    applied_at : (s : State) (fault : Fault) → Applies p s step fault → ActionApplies (world p) s a step.args fault
+    pub applied_at : (s : State) (fault : Fault) → Applies p s step fault → ActionApplies (world p) s a step.args fault
     applied_at s fault h = subst (λ o. ByAction p s step.args o fault) found h
 
     pub unknown_object : are_known (world p) step.args ≡ false → IsUnfit p step refused.Unknown

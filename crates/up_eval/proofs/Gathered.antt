@@ -1,8 +1,8 @@
 -- The changes of each term, gathered one by one.
-use Rattle.std.proofs.Common.{◌≡◌, ◌⊎◌, ℕ, zero, suc, ◌+◌, ◌<◌, ◌≤◌, arith, Bool, true, false, true≢false, cond, List, [], ◌∷◌, ◌++◌, map, filter, fold, take, drop, get_or, length, Option, Some, None, IsSomeAnd, option_map, option_and_then, refl, ap, sym, ◌∙◌, subst, inl, inr}
+use Rattle.std.proofs.Common.{◌≡◌, ◌⊎◌, ℕ, zero, suc, ◌+◌, ◌<◌, ◌≤◌, arith, Bool, true, false, true≢false, cond, List, [], ◌∷◌, ◌++◌, map, filter, take, get_or, length, Option, Some, None, IsSomeAnd, option_map, refl, ap, sym, ◌∙◌, subst, inl, inr}
 use Rattle.std.specs.Prelude.{◌≢◌, unwrap_or}
 use Rattle.std.specs.Ordering.{is_eq}
-use Rattle.std.specs.Cmp.{tied_itself, Equal-is}
+use Rattle.std.specs.Cmp.{tied_itself}
 use Rattle.std.specs.FinMap as table
 use Rattle.std.proofs.lemmas.List.{map-append, take_more}
 use Rattle.std.proofs.lemmas.List.Elements.{filter-append}
@@ -14,8 +14,8 @@ use Rattle.up_tree.specs.declared.action.Change.TheVariants.{Assign, Increase, D
 use Rattle.up_tree.specs.State.{State, Ground, ground_cmp, number_at}
 use Rattle.up_tree.specs.Changes.{NumberChange, ObjectChange, is_at, changes_at, objects_at, shift, shifted, new_number}
 use Rattle.up_tree.specs.Faults.{IsShift}
-use Rattle.up_tree.specs.Big.{IsBigNumber, BigChange}
-use Rattle.up_tree.proofs.States.{ground_total, ground_ties}
+use Rattle.up_tree.specs.Big.{IsBigNumber}
+use Rattle.up_tree.proofs.States.{ground_total}
 use Rattle.up_eval.specs.declared.changes.NumberChange.{NumberChange as MadeChange}
 use Rattle.up_eval.specs.declared.changes.ObjectChange.{ObjectChange as FoundObject}
 use Rattle.up_eval.specs.declared.gathering.Gathered.{Gathered}
@@ -24,7 +24,7 @@ use Rattle.up_eval.specs.declared.stop.Stop.{Stop}
 use Rattle.up_eval.specs.declared.stop.Stop.TheVariants as stop
 use Rattle.up_eval.specs.Numbers.{sum_of, difference_of}
 use Rattle.up_eval.specs.Effects.{number_meant, object_meant}
-use Rattle.up_eval.specs.Gathering.{is_shift, first_number, more_shifts, gathered_next, gathered_after, gathered_of, gathered_value, IsGatheredStop, IsMixed, AreApart, AreGathered, IsGatherStop, GathersMore, StopsAt, new_numbers, settled_numbers, first_value, Agree, AreFirst, TwoDiffer, IsObjectStop, FirstOfMore, DiffersFrom}
+use Rattle.up_eval.specs.Gathering.{is_shift, first_number, more_shifts, gathered_next, gathered_after, gathered_of, gathered_value, IsGatheredStop, IsMixed, AreGathered, GathersMore, StopsAt, new_numbers, settled_numbers, first_value, Agree, AreFirst, TwoDiffer, FirstOfMore, DiffersFrom}
 use Rattle.up_eval.proofs.Initial.{tied, each}
 use Rattle.up_eval.proofs.Fired.{append_nil}
 use Rattle.up_eval.proofs.OfEffects.{every_push}
@@ -156,9 +156,6 @@ shift_up x (Some o) = refl
 shift_down : (x : Fraction) (v : Option Fraction) → option_map (shift Decrease x) v ≡ difference_of v (Some x)
 shift_down x None = refl
 shift_down x (Some o) = refl
-
-abbrev by_change : Option Fraction → NumberChange → List NumberChange → Gathered
-by_change old d more = record { shifts = is_shift d.change; value = new_number old (d ∷ more) }
 
 some≢none : {X : Type 0} (x : X) → Some x ≡ None → ⊥
 some≢none {X = X} x e = true≢false (ap is e)

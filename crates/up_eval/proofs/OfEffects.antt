@@ -1,6 +1,6 @@
 -- What the effects that take place lack and change, one by one and all together.
-use Rattle.std.proofs.Common.{◌≡◌, ◌⊎◌, ℕ, zero, suc, ◌+◌, ◌<◌, ◌≤◌, arith, Bool, true, false, true≢false, cond, ◌&&◌, ◌||◌, List, [], ◌∷◌, ◌++◌, map, take, drop, get_or, length, Option, Some, None, IsSomeAnd, option_map, option_and_then, refl, ap, sym, ◌∙◌, subst, inl, inr, append_assoc}
-use Rattle.std.specs.Prelude.{ℤ, pos, negsuc, is_some, is_none, filter_map}
+use Rattle.std.proofs.Common.{◌≡◌, ◌⊎◌, ℕ, ◌+◌, ◌<◌, ◌≤◌, Bool, true, false, true≢false, ◌&&◌, ◌||◌, List, [], ◌∷◌, ◌++◌, map, take, get_or, length, Option, Some, None, IsSomeAnd, option_map, refl, ap, sym, ◌∙◌, subst, inl, inr}
+use Rattle.std.specs.Prelude.{ℤ, pos, is_some, is_none, filter_map}
 use Rattle.std.specs.List.{list_any}
 use Rattle.std.proofs.lemmas.List.{map-append, take_more}
 use Rattle.std.proofs.lemmas.List.Elements.{filter_map-append}
@@ -18,9 +18,9 @@ use Rattle.up_tree.specs.Objects.{Assignment}
 use Rattle.up_tree.specs.State.{State, Ground, ground, number_at}
 use Rattle.up_tree.specs.Value.{term_value, values_of, ground_at, number}
 use Rattle.up_tree.specs.Instances.{Fired}
-use Rattle.up_tree.specs.Changes.{NumberChange, ObjectChange, number_change, object_change, of_firing}
+use Rattle.up_tree.specs.Changes.{number_change, of_firing}
 use Rattle.up_tree.specs.Faults.{ObjectUndefined, NumberUndefined, NeedsOld, IsScaleDown, OfEffect}
-use Rattle.up_tree.specs.Big.{BigExpr, BigOperand}
+use Rattle.up_tree.specs.Big.{BigOperand}
 use Rattle.up_eval.specs.declared.changes.NumberChange.{NumberChange as MadeChange}
 use Rattle.up_eval.specs.declared.firing.Firing.{Firing}
 use Rattle.up_eval.specs.declared.step_error.Why.TheVariants as why
@@ -29,7 +29,7 @@ use Rattle.up_eval.specs.declared.stop.Stop.TheVariants as stop
 use Rattle.up_eval.specs.declared.scope.Binding.{Binding}
 use Rattle.up_eval.specs.Scope.{assignment_of}
 use Rattle.up_eval.specs.Firing.{meant, meant_all}
-use Rattle.up_eval.specs.Effects.{at_fired, OfFired, at_most_one, lacks_object, lacks_number, lacks_old, needs_old, is_zero, divides_by_zero, number_meant, change_of, value_of, assigned_value, IsNumberStop, IsNumbersStop}
+use Rattle.up_eval.specs.Effects.{at_fired, OfFired, at_most_one, lacks_object, lacks_number, lacks_old, needs_old, is_zero, divides_by_zero, number_meant, IsNumberStop, IsNumbersStop}
 use Rattle.up_eval.proofs.Conditions.{somewhere_at}
 use Rattle.up_eval.proofs.Fired.{take_all}
 use Rattle.up_eval.proofs.Steps.{none_of}
@@ -118,20 +118,8 @@ module _ (s : State) (fs : List Fired) where
   pub objects_defined : list_any (at_fired lacks_object s) fs ≡ false → ¬ OfEffect ObjectUndefined s fs
   objects_defined h = none_some (at_fired lacks_object s) (OfFired ObjectUndefined s) (λ f is. lacks_false s f.assignment f.effect is) fs h
 
-zero_is : (n : ℤ) → is_zero n ≡ true → n ≡ pos 0
-zero_is (pos zero) h = refl
-zero_is (pos (suc n)) h = absurd (true≢false (sym h))
-zero_is (negsuc n) h = absurd (true≢false (sym h))
-
 zero_not : (n : ℤ) → is_zero n ≡ false → ¬ (n ≡ pos 0)
 zero_not n h k = true≢false (sym (ap is_zero k) ∙ h)
-
-divides_true : (c : Change) (x : Fraction) → divides_by_zero c x ≡ true → IsScaleDown c × IsZero x
-divides_true ScaleDown x h = (tt, zero_is x.numerator h)
-divides_true Assign x h = absurd (true≢false (sym h))
-divides_true Increase x h = absurd (true≢false (sym h))
-divides_true Decrease x h = absurd (true≢false (sym h))
-divides_true ScaleUp x h = absurd (true≢false (sym h))
 
 divides_false : (c : Change) (x : Fraction) → divides_by_zero c x ≡ false → IsScaleDown c → ¬ IsZero x
 divides_false ScaleDown x h k = zero_not x.numerator h
@@ -139,13 +127,6 @@ divides_false Assign x h k = absurd k
 divides_false Increase x h k = absurd k
 divides_false Decrease x h k = absurd k
 divides_false ScaleUp x h k = absurd k
-
-needs_true : (c : Change) → needs_old c ≡ true → NeedsOld c
-needs_true Assign h = absurd (true≢false (sym h))
-needs_true Increase h = tt
-needs_true Decrease h = tt
-needs_true ScaleUp h = tt
-needs_true ScaleDown h = tt
 
 needs_is : (c : Change) → NeedsOld c → needs_old c ≡ true
 needs_is Assign h = absurd h
@@ -159,25 +140,9 @@ module _ (s : State) (c : Change) where
   abbrev Lacks : Option Ground → Option Fraction → Type 0
   Lacks target n = (n ≡ None) ⊎ (NeedsOld c × IsSomeAnd target (λ t. number_at s t ≡ None)) ⊎ (IsScaleDown c × IsSomeAnd n IsZero)
 
-  old_true : (target : Option Ground) → lacks_old s c target ≡ true → NeedsOld c × IsSomeAnd target (λ t. number_at s t ≡ None)
-  old_true None h = absurd (true≢false (sym h))
-  old_true (Some t) h = by (needs_old c) refl h
-    where
-      by : (b : Bool) → needs_old c ≡ b → (b && is_none (number_at s t)) ≡ true → NeedsOld c × (number_at s t ≡ None)
-      by true is h = (needs_true c is, is_none_true (number_at s t) h)
-      by false is h = absurd (true≢false (sym h))
-
   old_false : (target : Option Ground) → lacks_old s c target ≡ false → NeedsOld c → ¬ IsSomeAnd target (λ t. number_at s t ≡ None)
   old_false None h k n = n
   old_false (Some t) h k n = is_none_false (number_at s t) (sym (ap (λ b. b && is_none (number_at s t)) (needs_is c k)) ∙ h) n
-
-  number_true : (target : Option Ground) (n : Option Fraction) → lacks_number s c target n ≡ true → Lacks target n
-  number_true target None h = inl refl
-  number_true target (Some x) h = by (divides_by_zero c x) refl h
-    where
-      by : (b : Bool) → divides_by_zero c x ≡ b → (b || lacks_old s c target) ≡ true → Lacks target (Some x)
-      by true is h = inr (inr (divides_true c x is))
-      by false is h = inr (inl (old_true target h))
 
   number_false : (target : Option Ground) (n : Option Fraction) → lacks_number s c target n ≡ false → ¬ Lacks target n
   number_false target None h k = true≢false h

@@ -1,5 +1,5 @@
 -- The state that a step's changes leave, and what stops the step.
-use Rattle.std.proofs.Common.{◌≡◌, ◌⊎◌, Bool, true, false, true≢false, List, [], ◌∷◌, map, fold, Option, Some, None, IsSomeAnd, refl, ap, sym, ◌∙◌, subst, inl, inr}
+use Rattle.std.proofs.Common.{◌≡◌, Bool, true, false, true≢false, List, [], ◌∷◌, map, fold, Option, Some, None, IsSomeAnd, refl, ap, sym, ◌∙◌, subst, inl, inr}
 use Rattle.std.specs.Prelude.{unwrap_or}
 use Rattle.std.specs.FinSet as set
 use Rattle.std.specs.FinMap as table
@@ -9,7 +9,7 @@ use Rattle.up_tree.specs.declared.action.Action.{Action}
 use Rattle.up_tree.specs.declared.problem.Parts.{Parts}
 use Rattle.up_tree.specs.declared.problem.Step.{Step}
 use Rattle.up_tree.specs.Objects.{World, world, action_named}
-use Rattle.up_tree.specs.State.{State, Ground, ground_cmp, number_at, object_at}
+use Rattle.up_tree.specs.State.{State, ground_cmp, number_at, object_at}
 use Rattle.up_tree.specs.Instances.{Fired, firing}
 use Rattle.up_tree.specs.Changes.{NumberChange, ObjectChange, number_change, object_change, added, deleted, of_firing, changes_at, objects_at, new_number, new_object, put, changed}
 use Rattle.up_tree.specs.Faults as fault
@@ -17,13 +17,12 @@ use Rattle.up_tree.specs.Big.{BigAction}
 use Rattle.up_eval.specs.declared.changes.ObjectChange.{ObjectChange as FoundObject}
 use Rattle.up_eval.specs.declared.gathering.NewNumber.{NewNumber}
 use Rattle.up_eval.specs.declared.next.Changes.{Changes}
-use Rattle.up_eval.specs.declared.step_error.Why.{Why}
 use Rattle.up_eval.specs.declared.step_error.Why.TheVariants as why
 use Rattle.up_eval.specs.declared.stop.Stop.{Stop}
 use Rattle.up_eval.specs.declared.stop.Stop.TheVariants as stop
 use Rattle.up_eval.specs.Effects.{object_meant, IsNumbersStop}
 use Rattle.up_eval.specs.Gathering.{settled_numbers, put_numbers, put_objects, first_value, Agree, AreApart, IsGatherStop, IsObjectStop}
-use Rattle.up_eval.specs.Steps.{IsRefusal, Fits, ActionHasNone, IsStop, before, all_faults, error_of, fault_of}
+use Rattle.up_eval.specs.Steps.{IsRefusal, Fits, ActionHasNone, IsStop, before, all_faults, error_of}
 use Rattle.up_eval.proofs.Fitting.{applies_at, applied_at}
 use Rattle.up_eval.proofs.Gathered.{no_two}
 use Rattle.up_eval.specs.Nexts.{state_with, HaveNoFault, IsNewNumbersStop, IsNewObjectsStop, IsEffectsStop}

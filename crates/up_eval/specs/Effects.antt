@@ -1,5 +1,5 @@
 -- What the effects that take place lack and change, as a program finds it.
-use Rattle.std.specs.Prelude.{◌≡◌, ⊤, Bool, true, false, ◌&&◌, ◌||◌, is_none, ℤ, pos, zero, List, [], ◌∷◌, map, Option, Some, None}
+use Rattle.std.specs.Prelude.{⊤, Bool, true, false, ◌&&◌, ◌||◌, is_none, ℤ, pos, zero, List, [], ◌∷◌, Option, Some, None}
 use Rattle.up_text.specs.declared.name.Name.{Name}
 use Rattle.up_frac.specs.Fraction.{Fraction}
 use Rattle.up_tree.specs.declared.action.Change.{Change}
@@ -15,11 +15,9 @@ use Rattle.up_tree.specs.Faults.{OfEffect, NumberUndefined}
 use Rattle.up_tree.specs.Big.{BigOperand}
 use Rattle.up_eval.specs.declared.changes.NumberChange.{NumberChange}
 use Rattle.up_eval.specs.declared.changes.ObjectChange.{ObjectChange}
-use Rattle.up_eval.specs.declared.firing.Firing.{Firing}
 use Rattle.up_eval.specs.declared.step_error.Why.TheVariants as why
 use Rattle.up_eval.specs.declared.stop.Stop.{Stop}
 use Rattle.up_eval.specs.declared.stop.Stop.TheVariants as stop
-use Rattle.up_eval.specs.Firing.{meant}
 
 -- what is said of an effect, said of one that fires
 abbrev pub at_fired : {A : Type 0} → (State → Assignment → Effect → A) → State → Fired → A

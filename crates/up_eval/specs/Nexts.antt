@@ -1,10 +1,9 @@
 -- The state that a step's changes leave, and what stops them.
-use Rattle.std.specs.Prelude.{◌≡◌, ◌⊎◌, ⊤, List, map}
+use Rattle.std.specs.Prelude.{◌⊎◌, ⊤, List}
 use Rattle.std.specs.FinSet as set
-use Rattle.up_text.specs.declared.name.Name.{Name}
 use Rattle.up_tree.specs.State.{State}
 use Rattle.up_tree.specs.Instances.{Fired}
-use Rattle.up_tree.specs.Changes.{number_change, object_change, of_firing}
+use Rattle.up_tree.specs.Changes.{number_change, of_firing}
 use Rattle.up_tree.specs.Faults.{OfEffect, ObjectUndefined, NumberUndefined, NumbersConflict, ObjectsConflict}
 use Rattle.up_tree.specs.Big.{BigOperand, BigChange}
 use Rattle.up_eval.specs.declared.next.Changes.{Changes}

@@ -4,8 +4,6 @@ ghost use Rattle.up_tree.specs.Changes.{number_change, object_change, added, del
 ghost use Rattle.up_tree.specs.Faults.{OfEffect, NumberUndefined};
 ghost use Rattle.up_eval.specs.Firing.{meant, meant_all};
 ghost use Rattle.up_eval.specs.Effects.{at_fired, OfFired, at_most_one, lacks_object, lacks_number, lacks_old, needs_old, is_zero, divides_by_zero, number_meant, object_meant, change_of, value_of, assigned_value, IsNumberStop, IsNumbersStop};
-ghost use Rattle.up_eval.specs.declared.step_error.Why.TheVariants.{NumberUndefined as OfNumber};
-ghost use Rattle.up_eval.specs.declared.stop.Stop.TheVariants.{Refused as IsRefused};
 
 use crate::firing::Firing;
 use crate::ground::Ground;
@@ -144,7 +142,7 @@ impl State {
         ensures value { IfOk result (λ c. option_map number_meant c ≡ change_of change target operand) }
         ensures defined { OnOk result (lacks_number self.now change target operand ≡ false) }
         ensures lacks { OnErr result (lacks_number self.now change target operand ≡ true) }
-        ensures stop { IfErr result (λ e. e ≡ IsRefused OfNumber) }
+        ensures stop { IfErr result (λ e. e ≡ Stop.Refused Why.NumberUndefined) }
     {
         let Some(operand) = operand else {
             return Err(Stop::Refused(Why::NumberUndefined));

@@ -4,7 +4,6 @@ ghost use Rattle.up_tree.specs.State.{number_at};
 ghost use Rattle.up_tree.specs.Big.{IsBigNumber};
 ghost use Rattle.up_eval.specs.Effects.{number_meant, object_meant};
 ghost use Rattle.up_eval.specs.Gathering.{is_shift, first_number, gathered_next, gathered_after, gathered_value, new_numbers, IsGatheredStop, AreGathered, IsGatherStop, GathersMore, StopsAt, settled_numbers, AreApart, Agree, FirstOfMore, DiffersFrom, IsObjectStop};
-ghost use Rattle.up_eval.specs.declared.stop.Stop.TheVariants.{TooLarge as IsTooLarge};
 
 use crate::changes::{NumberChange, ObjectChange};
 use crate::error::TooLarge;
@@ -132,7 +131,7 @@ pub(crate) fn check_objects(alloc: Global, changes: &[ObjectChange]) -> Result<(
 impl State {
     fn first_of(&self, change: &NumberChange) -> Result<Gathered, TooLarge>
         ensures value { IfOk result (λ g. gathered_after (number_at self.now change.now.target) None (number_meant change.now) ≡ Some g) }
-        ensures too_large { OnErr result (IsGatheredStop (gathered_after (number_at self.now change.now.target) None (number_meant change.now)) IsTooLarge) }
+        ensures too_large { OnErr result (IsGatheredStop (gathered_after (number_at self.now change.now.target) None (number_meant change.now)) Stop.TooLarge) }
     {
         let value = first_number(
             change.change,
