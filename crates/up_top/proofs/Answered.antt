@@ -78,6 +78,7 @@ compiled : (words : List (List ℕ)) (command : Option Command) (answer : Answer
 compiled words None answer put held kept old new of compiles whole done has = absurd has
 compiled words (Some command.Kind) answer put held kept old new of compiles whole done has = absurd has
 compiled words (Some command.Pipeline) answer put held kept old new of compiles whole done has = absurd has
+compiled words (Some command.Validate) answer put held kept old new of compiles whole done has = absurd has
 compiled words (Some (command.Compile limit)) (answer.Features kind) put held kept old new of compiles whole done has = absurd of
 compiled words (Some (command.Compile limit)) (answer.Chain chain) put held kept old new of compiles whole done has = absurd of
 compiled words (Some (command.Compile limit)) (answer.Actions count) (Ok u) held kept old new of compiles whole done has = record { count = count; compiles = compiles; put = whole }
@@ -90,6 +91,9 @@ compiled words (Some (command.Compile limit)) (answer.Unread (engine.UnknownKey 
 compiled words (Some (command.Compile limit)) (answer.Unread (engine.NoKey word)) put held kept old new of compiles whole done has = cc
 compiled words (Some (command.Compile limit)) (answer.Unread (engine.WrongType word)) put held kept old new of compiles whole done has = cc
 compiled words (Some (command.Compile limit)) (answer.Unread (engine.UnknownFeature word)) put held kept old new of compiles whole done has = cc
+compiled words (Some (command.Compile limit)) (answer.Judged verdict) put held kept old new of compiles whole done has = absurd of
+compiled words (Some (command.Compile limit)) (answer.Unspelled place) put held kept old new of compiles whole done has = absurd of
+compiled words (Some (command.Compile limit)) (answer.TooLarge number) put held kept old new of compiles whole done has = absurd of
 compiled words (Some (command.Compile limit)) (answer.Stopped stop.Usage) put held kept old new of compiles whole done has = cc
 compiled words (Some (command.Compile limit)) (answer.Stopped stop.Memory) put held kept old new of compiles whole done has = cc
 compiled words (Some (command.Compile limit)) (answer.Stopped (stop.Missing at)) put held kept old new of compiles whole done has = cc

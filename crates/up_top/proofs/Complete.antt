@@ -15,6 +15,7 @@ few_inputs None = omega arith
 few_inputs (Some command.Kind) = omega arith
 few_inputs (Some command.Pipeline) = omega arith
 few_inputs (Some (command.Compile limit)) = omega arith
+few_inputs (Some command.Validate) = omega arith
 
 two_readable : (words : List (List ℕ)) (files : Files) (at : ℕ) → AreReadable words 3 files → 1 ≤ at → at < 3 → IsReadable words at files
 two_readable words files zero all some few = absurd (omega arith)
@@ -35,6 +36,7 @@ readable_at None words files at all some few = three_readable words files at all
 readable_at (Some command.Kind) words files at all some few = two_readable words files at all some few
 readable_at (Some command.Pipeline) words files at all some few = three_readable words files at all some few
 readable_at (Some (command.Compile limit)) words files at all some few = three_readable words files at all some few
+readable_at (Some command.Validate) words files at all some few = three_readable words files at all some few
 
 none_is_not_readable : (file : Option (List ℕ)) → file ≡ None → IsSomeAnd file (λ text. length text ≤ input_limit) → ⊥
 none_is_not_readable None is readable = readable
@@ -54,19 +56,19 @@ none_is_no_command (Some command) is fit = cc
 well : {S : Type 0} (faults misses larges losses : S → List ℕ → ℕ) (words : List (List ℕ)) (old new : S) (before now : ℕ) (files : Files) (status : Status)
     → ((status ≡ Usage) ↔ (command_of words ≡ None)) → IsPlaced (command_of words) status → ReadCause faults misses larges words old new status → WriteCause losses words old new status
     → (status ≡ WriteFault None → Rose before now) → StopsAt words status files → is_some (command_of words) ≡ true
-    → AllWell faults losses words old new before now files → IsOutcome status
+    → AllWell faults losses words old new before now files → IsOutcome (command_of words) status
 well faults misses larges losses words old new before now files Done usage placed read write put stops fit all = tt
 well faults misses larges losses words old new before now files Memory usage placed read write put stops fit all = tt
 well faults misses larges losses words old new before now files DomainRefused usage placed read write put stops fit all = tt
 well faults misses larges losses words old new before now files ProblemRefused usage placed read write put stops fit all = tt
-well faults misses larges losses words old new before now files EngineRefused usage placed read write put stops fit all = tt
-well faults misses larges losses words old new before now files NoPipeline usage placed read write put stops fit all = tt
+well faults misses larges losses words old new before now files EngineRefused usage placed read write put stops fit all = placed
+well faults misses larges losses words old new before now files NoPipeline usage placed read write put stops fit all = placed
 well faults misses larges losses words old new before now files TooMany usage placed read write put stops fit all = absurd placed
 well faults misses larges losses words old new before now files MapRefused usage placed read write put stops fit all = absurd placed
-well faults misses larges losses words old new before now files PlanRefused usage placed read write put stops fit all = absurd placed
+well faults misses larges losses words old new before now files PlanRefused usage placed read write put stops fit all = placed
 well faults misses larges losses words old new before now files PlanUnfit usage placed read write put stops fit all = absurd placed
-well faults misses larges losses words old new before now files PlanInvalid usage placed read write put stops fit all = absurd placed
-well faults misses larges losses words old new before now files NumberTooLarge usage placed read write put stops fit all = absurd placed
+well faults misses larges losses words old new before now files PlanInvalid usage placed read write put stops fit all = placed
+well faults misses larges losses words old new before now files NumberTooLarge usage placed read write put stops fit all = placed
 well faults misses larges losses words old new before now files Usage usage placed read write put stops fit all = absurd (none_is_no_command (command_of words) (usage.0 refl) fit)
 well faults misses larges losses words old new before now files (Missing at) usage placed read write put stops fit all =
     absurd (none_is_not_readable (files (word_at words at)) stops (readable_at (command_of words) words files at all.readable placed.0 placed.1))
@@ -81,7 +83,7 @@ well faults misses larges losses words old new before now files (InputTooLarge a
 pub well_told : {S : Type 0} (faults misses larges losses : S → List ℕ → ℕ) (words : List (List ℕ)) (old new : S) (before now : ℕ) (held : Option Files) (status : Status)
     → ((status ≡ Usage) ↔ (command_of words ≡ None)) → IsPlaced (command_of words) status → ReadCause faults misses larges words old new status → WriteCause losses words old new status
     → (status ≡ WriteFault None → Rose before now) → IfSome held (StopsAt words status) → is_some (command_of words) ≡ true
-    → IfSome held (λ files. AllWell faults losses words old new before now files → IsOutcome status)
+    → IfSome held (λ files. AllWell faults losses words old new before now files → IsOutcome (command_of words) status)
 well_told faults misses larges losses words old new before now None status usage placed read write put told fit = tt
 well_told faults misses larges losses words old new before now (Some files) status usage placed read write put told fit =
     well faults misses larges losses words old new before now files status usage placed read write put told fit

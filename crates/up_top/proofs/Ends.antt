@@ -142,25 +142,6 @@ read_refusal PlanInvalid kind = absurd kind
 read_refusal NumberTooLarge kind = absurd kind
 read_refusal (InputTooLarge at) kind = absurd kind
 
-pub refusal_placed : (command : Option Command) (status : Status) → IsRefusal status → HasEngine command → IsPlaced command status
-refusal_placed command Done kind has = absurd kind
-refusal_placed command Usage kind has = absurd kind
-refusal_placed command Memory kind has = tt
-refusal_placed command (Missing at) kind has = absurd kind
-refusal_placed command (ReadFault at) kind has = absurd kind
-refusal_placed command (WriteFault at) kind has = absurd kind
-refusal_placed command DomainRefused kind has = tt
-refusal_placed command ProblemRefused kind has = tt
-refusal_placed command EngineRefused kind has = has
-refusal_placed command NoPipeline kind has = has
-refusal_placed command TooMany kind has = absurd kind
-refusal_placed command MapRefused kind has = absurd kind
-refusal_placed command PlanRefused kind has = absurd kind
-refusal_placed command PlanUnfit kind has = absurd kind
-refusal_placed command PlanInvalid kind has = absurd kind
-refusal_placed command NumberTooLarge kind has = absurd kind
-refusal_placed command (InputTooLarge at) kind has = absurd kind
-
 pub read_refusal_placed : (command : Option Command) (status : Status) → IsReadRefusal status → IsPlaced command status
 read_refusal_placed command Done kind = absurd kind
 read_refusal_placed command Usage kind = absurd kind
@@ -193,10 +174,10 @@ refusal_within words EngineRefused kind = tt
 refusal_within words NoPipeline kind = tt
 refusal_within words TooMany kind = absurd kind
 refusal_within words MapRefused kind = absurd kind
-refusal_within words PlanRefused kind = absurd kind
+refusal_within words PlanRefused kind = tt
 refusal_within words PlanUnfit kind = absurd kind
-refusal_within words PlanInvalid kind = absurd kind
-refusal_within words NumberTooLarge kind = absurd kind
+refusal_within words PlanInvalid kind = tt
+refusal_within words NumberTooLarge kind = tt
 refusal_within words (InputTooLarge at) kind = absurd kind
 
 pub refusal_fit : (status : Status) → IsRefusal status → ¬ (status ≡ Usage)
@@ -212,10 +193,10 @@ refusal_fit EngineRefused kind = λ same. cc
 refusal_fit NoPipeline kind = λ same. cc
 refusal_fit TooMany kind = absurd kind
 refusal_fit MapRefused kind = absurd kind
-refusal_fit PlanRefused kind = absurd kind
+refusal_fit PlanRefused kind = λ same. cc
 refusal_fit PlanUnfit kind = absurd kind
-refusal_fit PlanInvalid kind = absurd kind
-refusal_fit NumberTooLarge kind = absurd kind
+refusal_fit PlanInvalid kind = λ same. cc
+refusal_fit NumberTooLarge kind = λ same. cc
 refusal_fit (InputTooLarge at) kind = absurd kind
 
 pub refusal_put : (status : Status) → IsRefusal status → ¬ (status ≡ WriteFault None)
@@ -231,10 +212,10 @@ refusal_put EngineRefused kind = λ same. cc
 refusal_put NoPipeline kind = λ same. cc
 refusal_put TooMany kind = absurd kind
 refusal_put MapRefused kind = absurd kind
-refusal_put PlanRefused kind = absurd kind
+refusal_put PlanRefused kind = λ same. cc
 refusal_put PlanUnfit kind = absurd kind
-refusal_put PlanInvalid kind = absurd kind
-refusal_put NumberTooLarge kind = absurd kind
+refusal_put PlanInvalid kind = λ same. cc
+refusal_put NumberTooLarge kind = λ same. cc
 refusal_put (InputTooLarge at) kind = absurd kind
 
 pub refusal_held : (words : List (List ℕ)) (old new : Option Files) (status : Status) → IsRefusal status → new ≡ old → Leaves words old new status
@@ -250,10 +231,10 @@ refusal_held words old new EngineRefused kind same = Leaves.untouched tt same
 refusal_held words old new NoPipeline kind same = Leaves.untouched tt same
 refusal_held words old new TooMany kind same = absurd kind
 refusal_held words old new MapRefused kind same = absurd kind
-refusal_held words old new PlanRefused kind same = absurd kind
+refusal_held words old new PlanRefused kind same = Leaves.untouched tt same
 refusal_held words old new PlanUnfit kind same = absurd kind
-refusal_held words old new PlanInvalid kind same = absurd kind
-refusal_held words old new NumberTooLarge kind same = absurd kind
+refusal_held words old new PlanInvalid kind same = Leaves.untouched tt same
+refusal_held words old new NumberTooLarge kind same = Leaves.untouched tt same
 refusal_held words old new (InputTooLarge at) kind same = absurd kind
 
 pub refusal_read : {S : Type 0} (faults misses larges : S → List ℕ → ℕ) (words : List (List ℕ)) (old new : S) (status : Status) → IsRefusal status → ReadCause faults misses larges words old new status
@@ -269,10 +250,10 @@ refusal_read faults misses larges words old new EngineRefused kind = tt
 refusal_read faults misses larges words old new NoPipeline kind = tt
 refusal_read faults misses larges words old new TooMany kind = absurd kind
 refusal_read faults misses larges words old new MapRefused kind = absurd kind
-refusal_read faults misses larges words old new PlanRefused kind = absurd kind
+refusal_read faults misses larges words old new PlanRefused kind = tt
 refusal_read faults misses larges words old new PlanUnfit kind = absurd kind
-refusal_read faults misses larges words old new PlanInvalid kind = absurd kind
-refusal_read faults misses larges words old new NumberTooLarge kind = absurd kind
+refusal_read faults misses larges words old new PlanInvalid kind = tt
+refusal_read faults misses larges words old new NumberTooLarge kind = tt
 refusal_read faults misses larges words old new (InputTooLarge at) kind = absurd kind
 
 pub refusal_write : {S : Type 0} (losses : S → List ℕ → ℕ) (words : List (List ℕ)) (old new : S) (status : Status) → IsRefusal status → WriteCause losses words old new status
@@ -288,10 +269,10 @@ refusal_write losses words old new EngineRefused kind = tt
 refusal_write losses words old new NoPipeline kind = tt
 refusal_write losses words old new TooMany kind = absurd kind
 refusal_write losses words old new MapRefused kind = absurd kind
-refusal_write losses words old new PlanRefused kind = absurd kind
+refusal_write losses words old new PlanRefused kind = tt
 refusal_write losses words old new PlanUnfit kind = absurd kind
-refusal_write losses words old new PlanInvalid kind = absurd kind
-refusal_write losses words old new NumberTooLarge kind = absurd kind
+refusal_write losses words old new PlanInvalid kind = tt
+refusal_write losses words old new NumberTooLarge kind = tt
 refusal_write losses words old new (InputTooLarge at) kind = absurd kind
 
 pub refusal_stops : (words : List (List ℕ)) (status : Status) (files : Files) → IsRefusal status → StopsAt words status files
@@ -307,10 +288,10 @@ refusal_stops words EngineRefused files kind = tt
 refusal_stops words NoPipeline files kind = tt
 refusal_stops words TooMany files kind = absurd kind
 refusal_stops words MapRefused files kind = absurd kind
-refusal_stops words PlanRefused files kind = absurd kind
+refusal_stops words PlanRefused files kind = tt
 refusal_stops words PlanUnfit files kind = absurd kind
-refusal_stops words PlanInvalid files kind = absurd kind
-refusal_stops words NumberTooLarge files kind = absurd kind
+refusal_stops words PlanInvalid files kind = tt
+refusal_stops words NumberTooLarge files kind = tt
 refusal_stops words (InputTooLarge at) files kind = absurd kind
 
 pub refusal_told : (words : List (List ℕ)) (status : Status) (held : Option Files) → IsRefusal status → IfSome held (StopsAt words status)
@@ -330,10 +311,10 @@ refusal_last words EngineRefused files kind all = all
 refusal_last words NoPipeline files kind all = all
 refusal_last words TooMany files kind all = absurd kind
 refusal_last words MapRefused files kind all = absurd kind
-refusal_last words PlanRefused files kind all = absurd kind
+refusal_last words PlanRefused files kind all = all
 refusal_last words PlanUnfit files kind all = absurd kind
-refusal_last words PlanInvalid files kind all = absurd kind
-refusal_last words NumberTooLarge files kind all = absurd kind
+refusal_last words PlanInvalid files kind all = all
+refusal_last words NumberTooLarge files kind all = all
 refusal_last words (InputTooLarge at) files kind all = absurd kind
 
 pub refusal_first : (words : List (List ℕ)) (status : Status) (end : ℕ) (held : Option Files) → IsRefusal status → inputs_end (command_of words) ≡ end
@@ -409,12 +390,6 @@ write_first words (stop.WriteFault at) end (Some files) kind same all = rw same 
 write_first words stop.NoPipeline end (Some files) kind same all = absurd kind
 write_first words (stop.InputTooLarge at) end (Some files) kind same all = absurd kind
 
-pub outputs_placed : (command : Option Command) (status : Status) → IsRefusal status → HasOutputs command → IsPlaced command status
-outputs_placed None status kind has = absurd has
-outputs_placed (Some command.Kind) status kind has = absurd has
-outputs_placed (Some command.Pipeline) status kind has = absurd has
-outputs_placed (Some (command.Compile limit)) status kind has = refusal_placed (Some (command.Compile limit)) status kind tt
-
 pub leaves_from : (words : List (List ℕ)) (old mid new : Option Files) (status : Status) → mid ≡ old → Leaves words mid new status → Leaves words old new status
 leaves_from words old mid new status same left = rw (← same) left
 
@@ -488,4 +463,4 @@ pub done_first : (words : List (List ℕ)) (end : ℕ) (held : Option Files) →
 done_first words end None same all = tt
 done_first words end (Some files) same all = rw same all
 
-pub ruleset ends = (input_placed, input_within, input_fit, stop_put, input_held, input_write, input_first, read_refusal, read_refusal_placed, refusal_placed, refusal_within, refusal_fit, refusal_put, refusal_held, refusal_read, refusal_write, refusal_told, refusal_first, write_placed, write_within, write_fit, write_read, write_told, write_first, done_first, outputs_placed, leaves_from, write_from, written_read)
+pub ruleset ends = (input_placed, input_within, input_fit, stop_put, input_held, input_write, input_first, read_refusal, read_refusal_placed, refusal_within, refusal_fit, refusal_put, refusal_held, refusal_read, refusal_write, refusal_told, refusal_first, write_placed, write_within, write_fit, write_read, write_told, write_first, done_first, leaves_from, write_from, written_read)

@@ -19,8 +19,8 @@ use Rattle.up_top.specs.declared.answer.Answer.{Answer}
 use Rattle.up_top.specs.declared.answer.Answer.TheVariants as answer
 use Rattle.up_top.specs.Answers.{status_of, stop_status}
 use Rattle.up_top.specs.Words.{command_of}
-use Rattle.up_top.specs.Cause.{IsHeld, IsKind, HasEngine, HasOutputs, IsInputStop, IsWriteStatus, IsRefusal}
-use Rattle.up_top.specs.Inputs.{AreInputs, AreSources, HasChain, HasFeatures, IsChosen, Says, SaysOfHeld, StopsBefore, StopsChoice, StopsRead, Tells}
+use Rattle.up_top.specs.Cause.{IsHeld, IsKind, HasEngine, HasOutputs, HasThird, IsInputStop, IsPlaced, IsWriteStatus, IsRefusal}
+use Rattle.up_top.specs.Inputs.{AreInputs, AreSources, HasChain, HasFeatures, IsChosen, IsEarly, Says, SaysOfHeld, StopsBefore, StopsChoice, StopsRead, Tells}
 use Rattle.up_top.specs.Run.{CompilesAt}
 
 -- ---- held texts
@@ -38,7 +38,7 @@ sources_read words domain problem old mid same d p = sources_held words domain p
 pub inputs_held : (words : List (List ℕ)) (domain problem engine : List ℕ) (held : Option Files) → IfSome held (AreSources words domain problem) → IfSome held (IsHeld words 3 engine)
     → IfSome held (AreInputs words domain problem engine)
 inputs_held words domain problem engine None s e = tt
-inputs_held words domain problem engine (Some files) s e = record { sources = s; holds_engine = λ _. e }
+inputs_held words domain problem engine (Some files) s e = record { sources = s; holds_third = λ _. e }
 
 pub ruleset held = (sources_read, inputs_held)
 
@@ -48,10 +48,13 @@ pub read_stops : (domain problem engine : List ℕ) (a : Answer) → StopsRead d
 read_stops domain problem engine (answer.Features kind) stops = absurd stops
 read_stops domain problem engine (answer.Chain chain) stops = absurd stops
 read_stops domain problem engine (answer.Actions count) stops = absurd stops
-read_stops domain problem engine (answer.Refused file place reason name) stops = stops
+read_stops domain problem engine (answer.Refused file place reason name) stops = record { early = tt; says = stops }
 read_stops domain problem engine (answer.Unread error) stops = absurd stops
+read_stops domain problem engine (answer.Judged verdict) stops = absurd stops
+read_stops domain problem engine (answer.Unspelled place) stops = absurd stops
+read_stops domain problem engine (answer.TooLarge number) stops = absurd stops
 read_stops domain problem engine (answer.Stopped stop.Usage) stops = absurd stops
-read_stops domain problem engine (answer.Stopped stop.Memory) stops = tt
+read_stops domain problem engine (answer.Stopped stop.Memory) stops = record { early = tt; says = tt }
 read_stops domain problem engine (answer.Stopped (stop.Missing at)) stops = absurd stops
 read_stops domain problem engine (answer.Stopped (stop.ReadFault at)) stops = absurd stops
 read_stops domain problem engine (answer.Stopped (stop.WriteFault at)) stops = absurd stops
@@ -63,18 +66,21 @@ choice_stops domain problem engine parts (answer.Features kind) forms stops = ab
 choice_stops domain problem engine parts (answer.Chain chain) forms stops = absurd stops
 choice_stops domain problem engine parts (answer.Actions count) forms stops = absurd stops
 choice_stops domain problem engine parts (answer.Refused file place reason name) forms stops = absurd stops
-choice_stops domain problem engine parts (answer.Unread unread.Memory) forms stops = tt
-choice_stops domain problem engine parts (answer.Unread unread.Toml) forms stops = record { forms = forms; says = stops }
-choice_stops domain problem engine parts (answer.Unread (unread.UnknownKey word)) forms stops = record { forms = forms; says = stops }
-choice_stops domain problem engine parts (answer.Unread (unread.NoKey word)) forms stops = record { forms = forms; says = stops }
-choice_stops domain problem engine parts (answer.Unread (unread.WrongType word)) forms stops = record { forms = forms; says = stops }
-choice_stops domain problem engine parts (answer.Unread (unread.UnknownFeature word)) forms stops = record { forms = forms; says = stops }
+choice_stops domain problem engine parts (answer.Unread unread.Memory) forms stops = record { early = tt; says = tt }
+choice_stops domain problem engine parts (answer.Unread unread.Toml) forms stops = record { early = tt; says = record { forms = forms; says = stops } }
+choice_stops domain problem engine parts (answer.Unread (unread.UnknownKey word)) forms stops = record { early = tt; says = record { forms = forms; says = stops } }
+choice_stops domain problem engine parts (answer.Unread (unread.NoKey word)) forms stops = record { early = tt; says = record { forms = forms; says = stops } }
+choice_stops domain problem engine parts (answer.Unread (unread.WrongType word)) forms stops = record { early = tt; says = record { forms = forms; says = stops } }
+choice_stops domain problem engine parts (answer.Unread (unread.UnknownFeature word)) forms stops = record { early = tt; says = record { forms = forms; says = stops } }
+choice_stops domain problem engine parts (answer.Judged verdict) forms stops = absurd stops
+choice_stops domain problem engine parts (answer.Unspelled place) forms stops = absurd stops
+choice_stops domain problem engine parts (answer.TooLarge number) forms stops = absurd stops
 choice_stops domain problem engine parts (answer.Stopped stop.Usage) forms stops = absurd stops
-choice_stops domain problem engine parts (answer.Stopped stop.Memory) forms stops = tt
+choice_stops domain problem engine parts (answer.Stopped stop.Memory) forms stops = record { early = tt; says = tt }
 choice_stops domain problem engine parts (answer.Stopped (stop.Missing at)) forms stops = absurd stops
 choice_stops domain problem engine parts (answer.Stopped (stop.ReadFault at)) forms stops = absurd stops
 choice_stops domain problem engine parts (answer.Stopped (stop.WriteFault at)) forms stops = absurd stops
-choice_stops domain problem engine parts (answer.Stopped stop.NoPipeline) forms stops = record { forms = forms; parts = parts; none = stops }
+choice_stops domain problem engine parts (answer.Stopped stop.NoPipeline) forms stops = record { early = tt; says = record { forms = forms; parts = parts; none = stops } }
 choice_stops domain problem engine parts (answer.Stopped (stop.InputTooLarge at)) forms stops = absurd stops
 
 -- ---- the same of results that are handed on
@@ -97,9 +103,9 @@ pub ruleset stops = (read_stops, chain_result, stops_result, forms_result)
 
 -- the status of a stop before the writes
 pub before_refusal : (domain problem engine : List ℕ) (a : Answer) → StopsBefore domain problem engine a → IsRefusal (status_of a)
-before_refusal domain problem engine (answer.Features kind) stops = absurd stops
-before_refusal domain problem engine (answer.Chain chain) stops = absurd stops
-before_refusal domain problem engine (answer.Actions count) stops = absurd stops
+before_refusal domain problem engine (answer.Features kind) stops = absurd stops.early
+before_refusal domain problem engine (answer.Chain chain) stops = absurd stops.early
+before_refusal domain problem engine (answer.Actions count) stops = absurd stops.early
 before_refusal domain problem engine (answer.Refused file.Domain place reason name) stops = tt
 before_refusal domain problem engine (answer.Refused file.Problem place reason name) stops = tt
 before_refusal domain problem engine (answer.Unread unread.Memory) stops = tt
@@ -108,13 +114,16 @@ before_refusal domain problem engine (answer.Unread (unread.UnknownKey word)) st
 before_refusal domain problem engine (answer.Unread (unread.NoKey word)) stops = tt
 before_refusal domain problem engine (answer.Unread (unread.WrongType word)) stops = tt
 before_refusal domain problem engine (answer.Unread (unread.UnknownFeature word)) stops = tt
-before_refusal domain problem engine (answer.Stopped stop.Usage) stops = absurd stops
+before_refusal domain problem engine (answer.Judged verdict) stops = absurd stops.early
+before_refusal domain problem engine (answer.Unspelled place) stops = absurd stops.early
+before_refusal domain problem engine (answer.TooLarge number) stops = absurd stops.early
+before_refusal domain problem engine (answer.Stopped stop.Usage) stops = absurd stops.early
 before_refusal domain problem engine (answer.Stopped stop.Memory) stops = tt
-before_refusal domain problem engine (answer.Stopped (stop.Missing at)) stops = absurd stops
-before_refusal domain problem engine (answer.Stopped (stop.ReadFault at)) stops = absurd stops
-before_refusal domain problem engine (answer.Stopped (stop.WriteFault at)) stops = absurd stops
+before_refusal domain problem engine (answer.Stopped (stop.Missing at)) stops = absurd stops.early
+before_refusal domain problem engine (answer.Stopped (stop.ReadFault at)) stops = absurd stops.early
+before_refusal domain problem engine (answer.Stopped (stop.WriteFault at)) stops = absurd stops.early
 before_refusal domain problem engine (answer.Stopped stop.NoPipeline) stops = tt
-before_refusal domain problem engine (answer.Stopped (stop.InputTooLarge at)) stops = absurd stops
+before_refusal domain problem engine (answer.Stopped (stop.InputTooLarge at)) stops = absurd stops.early
 
 -- ---- answers
 
@@ -135,48 +144,52 @@ input_tells words (stop.WriteFault at) end (Some files) kind = absurd kind
 input_tells words stop.NoPipeline end (Some files) kind = absurd kind
 input_tells words (stop.InputTooLarge at) end (Some files) kind = tt
 
-no_engine : (command : Option Command) → IsKind command → HasEngine command → ⊥
-no_engine None kind has = has
-no_engine (Some command.Kind) kind has = has
-no_engine (Some command.Pipeline) kind has = kind
-no_engine (Some (command.Compile limit)) kind has = kind
+no_third : (command : Option Command) → IsKind command → HasThird command → ⊥
+no_third None kind has = has
+no_third (Some command.Kind) kind has = has
+no_third (Some command.Pipeline) kind has = kind
+no_third (Some (command.Compile limit)) kind has = kind
+no_third (Some command.Validate) kind has = kind
 
 kind_inputs : (words : List (List ℕ)) (domain problem : List ℕ) (files : Files) → IsKind (command_of words) → AreSources words domain problem files
     → AreInputs words domain problem [] files
-kind_inputs words domain problem files kind sources = record { sources = sources; holds_engine = λ has. absurd (no_engine (command_of words) kind has) }
+kind_inputs words domain problem files kind sources = record { sources = sources; holds_third = λ has. absurd (no_third (command_of words) kind has) }
 
-tells_refused : (words : List (List ℕ)) (domain problem engine : List ℕ) (files : Files) (a : Answer) → AreInputs words domain problem engine files
-    → StopsBefore domain problem engine a → Tells words a files
-tells_refused words domain problem engine files (answer.Features kind) held stops = absurd stops
-tells_refused words domain problem engine files (answer.Chain chain) held stops = absurd stops
-tells_refused words domain problem engine files (answer.Actions count) held stops = absurd stops
-tells_refused words domain problem engine files (answer.Refused file place reason name) held stops = record { domain = domain; problem = problem; engine = engine; held = held; says = stops }
-tells_refused words domain problem engine files (answer.Unread unread.Memory) held stops = record { domain = domain; problem = problem; engine = engine; held = held; says = tt }
-tells_refused words domain problem engine files (answer.Unread unread.Toml) held stops = record { domain = domain; problem = problem; engine = engine; held = held; says = stops }
-tells_refused words domain problem engine files (answer.Unread (unread.UnknownKey word)) held stops = record { domain = domain; problem = problem; engine = engine; held = held; says = stops }
-tells_refused words domain problem engine files (answer.Unread (unread.NoKey word)) held stops = record { domain = domain; problem = problem; engine = engine; held = held; says = stops }
-tells_refused words domain problem engine files (answer.Unread (unread.WrongType word)) held stops = record { domain = domain; problem = problem; engine = engine; held = held; says = stops }
-tells_refused words domain problem engine files (answer.Unread (unread.UnknownFeature word)) held stops = record { domain = domain; problem = problem; engine = engine; held = held; says = stops }
-tells_refused words domain problem engine files (answer.Stopped stop.Usage) held stops = absurd stops
-tells_refused words domain problem engine files (answer.Stopped stop.Memory) held stops = tt
-tells_refused words domain problem engine files (answer.Stopped (stop.Missing at)) held stops = absurd stops
-tells_refused words domain problem engine files (answer.Stopped (stop.ReadFault at)) held stops = absurd stops
-tells_refused words domain problem engine files (answer.Stopped (stop.WriteFault at)) held stops = absurd stops
-tells_refused words domain problem engine files (answer.Stopped stop.NoPipeline) held stops = record { domain = domain; problem = problem; engine = engine; held = held; says = stops }
-tells_refused words domain problem engine files (answer.Stopped (stop.InputTooLarge at)) held stops = absurd stops
+-- what is said of the texts is told of the held ones
+says_held : (words : List (List ℕ)) (domain problem third : List ℕ) (files : Files) (a : Answer) → AreInputs words domain problem third files
+    → Says a domain problem third → Tells words a files
+says_held words domain problem third files (answer.Features kind) held says = record { domain = domain; problem = problem; third = third; held = held; says = says }
+says_held words domain problem third files (answer.Chain chain) held says = record { domain = domain; problem = problem; third = third; held = held; says = says }
+says_held words domain problem third files (answer.Actions count) held says = record { domain = domain; problem = problem; third = third; held = held; says = says }
+says_held words domain problem third files (answer.Refused file place reason name) held says = record { domain = domain; problem = problem; third = third; held = held; says = says }
+says_held words domain problem third files (answer.Unread error) held says = record { domain = domain; problem = problem; third = third; held = held; says = says }
+says_held words domain problem third files (answer.Judged verdict) held says = record { domain = domain; problem = problem; third = third; held = held; says = says }
+says_held words domain problem third files (answer.Unspelled place) held says = record { domain = domain; problem = problem; third = third; held = held; says = says }
+says_held words domain problem third files (answer.TooLarge number) held says = record { domain = domain; problem = problem; third = third; held = held; says = says }
+says_held words domain problem third files (answer.Stopped stop.Usage) held says = tt
+says_held words domain problem third files (answer.Stopped stop.Memory) held says = tt
+says_held words domain problem third files (answer.Stopped (stop.Missing at)) held says = tt
+says_held words domain problem third files (answer.Stopped (stop.ReadFault at)) held says = tt
+says_held words domain problem third files (answer.Stopped (stop.WriteFault at)) held says = record { domain = domain; problem = problem; third = third; held = held; says = says }
+says_held words domain problem third files (answer.Stopped stop.NoPipeline) held says = record { domain = domain; problem = problem; third = third; held = held; says = says }
+says_held words domain problem third files (answer.Stopped (stop.InputTooLarge at)) held says = tt
+
+pub says_tells : (words : List (List ℕ)) (domain problem third : List ℕ) (held : Option Files) (a : Answer) → IfSome held (AreInputs words domain problem third)
+    → Says a domain problem third → IfSome held (Tells words a)
+says_tells words domain problem third None a held says = tt
+says_tells words domain problem third (Some files) a held says = says_held words domain problem third files a held says
 
 -- a command over three texts that ends before it writes
 pub refused_tells : (words : List (List ℕ)) (domain problem engine : List ℕ) (held : Option Files) (a : Answer) → IfSome held (AreInputs words domain problem engine)
     → StopsBefore domain problem engine a → IfSome held (Tells words a)
-refused_tells words domain problem engine None a held stops = tt
-refused_tells words domain problem engine (Some files) a held stops = tells_refused words domain problem engine files a held stops
+refused_tells words domain problem engine held a inputs stops = says_tells words domain problem engine held a inputs stops.says
 
 -- the same over two texts
 pub unread_tells : (words : List (List ℕ)) (domain problem : List ℕ) (held : Option Files) (a : Answer) → IsKind (command_of words)
     → IfSome held (AreSources words domain problem) → StopsRead domain problem a → IfSome held (Tells words a)
 unread_tells words domain problem None a kind held stops = tt
 unread_tells words domain problem (Some files) a kind held stops =
-    tells_refused words domain problem [] files a (kind_inputs words domain problem files kind held) (read_stops domain problem [] a stops)
+    says_held words domain problem [] files a (kind_inputs words domain problem files kind held) (read_stops domain problem [] a stops).says
 
 pub features_tell : (words : List (List ℕ)) (domain problem : List ℕ) (held : Option Files) (kind : Kind) (parts : Parts) → IsKind (command_of words)
     → IfSome held (AreSources words domain problem) → HaveForms domain problem → has kind.0 ≡ carries parts
@@ -186,7 +199,7 @@ features_tell words domain problem (Some files) kind parts of held forms feature
     record {
       domain = domain;
       problem = problem;
-      engine = [];
+      third = [];
       held = kind_inputs words domain problem files of held;
       says = record { forms = forms; parts = parts; features = features };
     }
@@ -195,13 +208,13 @@ pub chain_tells : (words : List (List ℕ)) (domain problem engine : List ℕ) (
     → HasChain domain problem engine chain.stages → IfSome held (Tells words (answer.Chain chain))
 chain_tells words domain problem engine None chain held has = tt
 chain_tells words domain problem engine (Some files) chain held has =
-    record { domain = domain; problem = problem; engine = engine; held = held; says = has }
+    record { domain = domain; problem = problem; third = engine; held = held; says = has }
 
 pub actions_tell : (words : List (List ℕ)) (domain problem engine : List ℕ) (held : Option Files) (count : ℕ) → IfSome held (AreInputs words domain problem engine)
     → HaveForms domain problem → IfSome held (Tells words (answer.Actions count))
 actions_tell words domain problem engine None count held forms = tt
 actions_tell words domain problem engine (Some files) count held forms =
-    record { domain = domain; problem = problem; engine = engine; held = held; says = forms }
+    record { domain = domain; problem = problem; third = engine; held = held; says = forms }
 
 -- a stop of the writes
 pub write_tells : (words : List (List ℕ)) (domain problem engine : List ℕ) (held : Option Files) (s : Stop) → IfSome held (AreInputs words domain problem engine)
@@ -211,34 +224,73 @@ write_tells words domain problem engine (Some files) stop.Usage held forms kind 
 write_tells words domain problem engine (Some files) stop.Memory held forms kind = tt
 write_tells words domain problem engine (Some files) (stop.Missing at) held forms kind = absurd kind
 write_tells words domain problem engine (Some files) (stop.ReadFault at) held forms kind = absurd kind
-write_tells words domain problem engine (Some files) (stop.WriteFault at) held forms kind = record { domain = domain; problem = problem; engine = engine; held = held; says = forms }
+write_tells words domain problem engine (Some files) (stop.WriteFault at) held forms kind = record { domain = domain; problem = problem; third = engine; held = held; says = forms }
 write_tells words domain problem engine (Some files) stop.NoPipeline held forms kind = absurd kind
 write_tells words domain problem engine (Some files) (stop.InputTooLarge at) held forms kind = absurd kind
-
--- the engine text is held
-pub engine_held : (words : List (List ℕ)) (domain problem engine : List ℕ) (held : Option Files) → HasEngine (command_of words)
-    → IfSome held (AreInputs words domain problem engine) → IfSome held (IsHeld words 3 engine)
-engine_held words domain problem engine None has held = tt
-engine_held words domain problem engine (Some files) has held = held.holds_engine has
 
 has_engine : (command : Option Command) → HasOutputs command → HasEngine command
 has_engine None has = has
 has_engine (Some command.Kind) has = has
 has_engine (Some command.Pipeline) has = tt
 has_engine (Some (command.Compile limit)) has = has
+has_engine (Some command.Validate) has = absurd has
 
+has_third : (command : Option Command) → HasOutputs command → HasThird command
+has_third None has = has
+has_third (Some command.Kind) has = has
+has_third (Some command.Pipeline) has = tt
+has_third (Some (command.Compile limit)) has = has
+has_third (Some command.Validate) has = tt
+
+-- the engine text is held
 pub outputs_engine : (words : List (List ℕ)) (domain problem engine : List ℕ) (held : Option Files) → HasOutputs (command_of words)
     → IfSome held (AreInputs words domain problem engine) → IfSome held (IsHeld words 3 engine)
-outputs_engine words domain problem engine held has inputs = engine_held words domain problem engine held (has_engine (command_of words) has) inputs
+outputs_engine words domain problem engine None has inputs = tt
+outputs_engine words domain problem engine (Some files) has inputs = inputs.holds_third (has_third (command_of words) has)
+
+-- the place of a stop before the writes
+early : (command : Option Command) (a : Answer) → IsEarly a → HasEngine command → IsPlaced command (status_of a)
+early command (answer.Features kind) is has = absurd is
+early command (answer.Chain chain) is has = absurd is
+early command (answer.Actions count) is has = absurd is
+early command (answer.Refused file.Domain place reason name) is has = tt
+early command (answer.Refused file.Problem place reason name) is has = tt
+early command (answer.Unread unread.Memory) is has = tt
+early command (answer.Unread unread.Toml) is has = has
+early command (answer.Unread (unread.UnknownKey word)) is has = has
+early command (answer.Unread (unread.NoKey word)) is has = has
+early command (answer.Unread (unread.WrongType word)) is has = has
+early command (answer.Unread (unread.UnknownFeature word)) is has = has
+early command (answer.Judged verdict) is has = absurd is
+early command (answer.Unspelled place) is has = absurd is
+early command (answer.TooLarge number) is has = absurd is
+early command (answer.Stopped stop.Usage) is has = absurd is
+early command (answer.Stopped stop.Memory) is has = tt
+early command (answer.Stopped (stop.Missing at)) is has = absurd is
+early command (answer.Stopped (stop.ReadFault at)) is has = absurd is
+early command (answer.Stopped (stop.WriteFault at)) is has = absurd is
+early command (answer.Stopped stop.NoPipeline) is has = has
+early command (answer.Stopped (stop.InputTooLarge at)) is has = absurd is
+
+pub early_placed : (command : Option Command) (domain problem engine : List ℕ) (a : Answer) → StopsBefore domain problem engine a → HasEngine command
+    → IsPlaced command (status_of a)
+early_placed command domain problem engine a stops has = early command a stops.early has
+
+pub outputs_placed : (command : Option Command) (domain problem engine : List ℕ) (a : Answer) → StopsBefore domain problem engine a → HasOutputs command
+    → IsPlaced command (status_of a)
+outputs_placed command domain problem engine a stops has = early command a stops.early (has_engine command has)
 
 -- an answer before the writes tells nothing of outputs
 pub refused_compiles : (words : List (List ℕ)) (domain problem engine : List ℕ) (old new : Option Files) (a : Answer) → StopsBefore domain problem engine a
     → CompilesAt words old new a
 refused_compiles words domain problem engine old new (answer.Features kind) stops = tt
 refused_compiles words domain problem engine old new (answer.Chain chain) stops = tt
-refused_compiles words domain problem engine old new (answer.Actions count) stops = absurd stops
+refused_compiles words domain problem engine old new (answer.Actions count) stops = absurd stops.early
 refused_compiles words domain problem engine old new (answer.Refused file place reason name) stops = tt
 refused_compiles words domain problem engine old new (answer.Unread error) stops = tt
+refused_compiles words domain problem engine old new (answer.Judged verdict) stops = tt
+refused_compiles words domain problem engine old new (answer.Unspelled place) stops = tt
+refused_compiles words domain problem engine old new (answer.TooLarge number) stops = tt
 refused_compiles words domain problem engine old new (answer.Stopped s) stops = tt
 
 pub unread_compiles : (words : List (List ℕ)) (domain problem : List ℕ) (old new : Option Files) (a : Answer) → StopsRead domain problem a
@@ -248,4 +300,4 @@ unread_compiles words domain problem old new a stops = refused_compiles words do
 pub compiles_from : (words : List (List ℕ)) (old mid new : Option Files) (a : Answer) → mid ≡ old → CompilesAt words mid new a → CompilesAt words old new a
 compiles_from words old mid new a same compiles = rw (← same) compiles
 
-pub ruleset tells = (refused_compiles, unread_compiles, input_tells, refused_tells, unread_tells, features_tell, chain_tells, actions_tell, write_tells, before_refusal)
+pub ruleset tells = (early_placed, outputs_placed, refused_compiles, unread_compiles, input_tells, refused_tells, unread_tells, features_tell, chain_tells, actions_tell, write_tells, before_refusal)

@@ -12,13 +12,16 @@ use Rattle.up_check.specs.Reasons.{reason_word}
 use Rattle.up_check.specs.declared.reason.File.TheVariants as file
 use Rattle.up_pipeline.specs.declared.engine.EngineError.{EngineError}
 use Rattle.up_pipeline.specs.declared.engine.EngineError.TheVariants as engine
+use Rattle.up_validate.specs.declared.verdict.Verdict.{Verdict}
+use Rattle.up_validate.specs.declared.verdict.Verdict.TheVariants as verdict
 use Rattle.up_top.specs.declared.answer.Stop.{Stop}
 use Rattle.up_top.specs.declared.answer.Stop.TheVariants as stop
 use Rattle.up_top.specs.declared.answer.Answer.{Answer}
 use Rattle.up_top.specs.declared.answer.Answer.TheVariants as answer
 use Rattle.up_top.specs.declared.status.Status.{Status}
-use Rattle.up_top.specs.declared.status.Status.TheVariants.{Done, Usage, Memory, Missing, ReadFault, WriteFault, DomainRefused, ProblemRefused, EngineRefused, NoPipeline, InputTooLarge}
+use Rattle.up_top.specs.declared.status.Status.TheVariants.{Done, Usage, Memory, Missing, ReadFault, WriteFault, DomainRefused, ProblemRefused, EngineRefused, NoPipeline, PlanRefused, PlanInvalid, NumberTooLarge, InputTooLarge}
 use Rattle.up_top.specs.Words.{word_at}
+use Rattle.up_top.specs.Verdicts.{verdict_text}
 
 -- ---- statuses
 
@@ -39,12 +42,21 @@ abbrev pub engine_status : EngineError → Status
 engine_status engine.Memory = Memory
 engine_status error = EngineRefused
 
+abbrev pub verdict_status : Verdict → Status
+verdict_status (verdict.Valid metric) = Done
+verdict_status (verdict.BadStep number reason) = PlanInvalid
+verdict_status verdict.GoalOpen = PlanInvalid
+verdict_status (verdict.Broken number) = PlanInvalid
+
 abbrev pub status_of : Answer → Status
 status_of (answer.Features kind) = Done
 status_of (answer.Chain chain) = Done
 status_of (answer.Actions count) = Done
 status_of (answer.Refused file place reason name) = file_status file
 status_of (answer.Unread error) = engine_status error
+status_of (answer.Judged verdict) = verdict_status verdict
+status_of (answer.Unspelled place) = PlanRefused
+status_of (answer.TooLarge number) = NumberTooLarge
 status_of (answer.Stopped stop) = stop_status stop
 
 -- ---- texts
@@ -97,6 +109,12 @@ engine_text (engine.NoKey word) = codes "engine refused " ++ named_text (codes "
 engine_text (engine.WrongType word) = codes "engine refused " ++ named_text (codes "wrong-type") word
 engine_text (engine.UnknownFeature word) = codes "engine refused " ++ named_text (codes "unknown-feature") word
 
+abbrev pub unspelled_text : Place → List ℕ
+unspelled_text place = codes "plan refused " ++ ((decimal place.line ++ codes ":") ++ (decimal place.column ++ codes "\n"))
+
+abbrev pub too_large_text : ℕ → List ℕ
+too_large_text number = codes "number too large step " ++ decimal number ++ codes "\n"
+
 abbrev pub stop_text : List (List ℕ) → Stop → List ℕ
 stop_text words stop.Usage = codes "usage\n"
 stop_text words stop.Memory = codes "out of memory\n"
@@ -112,4 +130,7 @@ answer_text words (answer.Chain chain) = chain_line chain.stages
 answer_text words (answer.Actions count) = actions_text count
 answer_text words (answer.Refused file place reason name) = refused_text file place reason name
 answer_text words (answer.Unread error) = engine_text error
+answer_text words (answer.Judged verdict) = verdict_text verdict
+answer_text words (answer.Unspelled place) = unspelled_text place
+answer_text words (answer.TooLarge number) = too_large_text number
 answer_text words (answer.Stopped stop) = stop_text words stop

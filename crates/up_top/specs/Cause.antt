@@ -2,9 +2,9 @@
 use Rattle.std.specs.Prelude.{◌≡◌, ℕ, zero, suc, ◌≤◌, ◌<◌, List, length, Option, None, Some, IsSomeAnd, ⊤}
 use Rattle.up_store.specs.Outside.{Files, Rose, input_limit}
 use Rattle.up_top.specs.declared.command.Command.{Command}
-use Rattle.up_top.specs.declared.command.Command.TheVariants.{Kind, Pipeline, Compile}
+use Rattle.up_top.specs.declared.command.Command.TheVariants.{Kind, Pipeline, Compile, Validate}
 use Rattle.up_top.specs.declared.status.Status.{Status}
-use Rattle.up_top.specs.declared.status.Status.TheVariants.{Done, Usage, Memory, Missing, ReadFault, WriteFault, DomainRefused, ProblemRefused, EngineRefused, NoPipeline, InputTooLarge}
+use Rattle.up_top.specs.declared.status.Status.TheVariants.{Done, Usage, Memory, Missing, ReadFault, WriteFault, DomainRefused, ProblemRefused, EngineRefused, NoPipeline, PlanRefused, PlanInvalid, NumberTooLarge, InputTooLarge}
 use Rattle.up_top.specs.Words.{word_at, command_of}
 
 -- the place behind the inputs of a command; the first input stands at place 1
@@ -90,12 +90,10 @@ IsRefusal DomainRefused = ⊤
 IsRefusal ProblemRefused = ⊤
 IsRefusal EngineRefused = ⊤
 IsRefusal NoPipeline = ⊤
+IsRefusal PlanRefused = ⊤
+IsRefusal PlanInvalid = ⊤
+IsRefusal NumberTooLarge = ⊤
 IsRefusal status = ⊥
-
--- the statuses at which a command over these texts ends
-abbrev pub IsOutcome : Status → Type 0
-IsOutcome Done = ⊤
-IsOutcome status = IsRefusal status
 
 -- the statuses of writes at the places from first to last
 abbrev pub IsWriteStatus : ℕ → ℕ → Status → Type 0
@@ -122,11 +120,36 @@ abbrev pub HasOutputs : Option Command → Type 0
 HasOutputs (Some (Compile limit)) = ⊤
 HasOutputs command = ⊥
 
--- an engine is read by all commands but `kind`
+-- the commands that read an engine
 abbrev pub HasEngine : Option Command → Type 0
 HasEngine (Some Pipeline) = ⊤
 HasEngine (Some (Compile limit)) = ⊤
 HasEngine command = ⊥
+
+-- a plan is read by `validate` alone
+abbrev pub HasPlan : Option Command → Type 0
+HasPlan (Some Validate) = ⊤
+HasPlan command = ⊥
+
+-- a third text, an engine's or a plan's, is read by all commands but `kind`
+abbrev pub HasThird : Option Command → Type 0
+HasThird (Some Pipeline) = ⊤
+HasThird (Some (Compile limit)) = ⊤
+HasThird (Some Validate) = ⊤
+HasThird command = ⊥
+
+-- the statuses at which a command over texts that can be read ends, where nothing fails
+abbrev pub IsOutcome : Option Command → Status → Type 0
+IsOutcome command Done = ⊤
+IsOutcome command Memory = ⊤
+IsOutcome command DomainRefused = ⊤
+IsOutcome command ProblemRefused = ⊤
+IsOutcome command EngineRefused = HasEngine command
+IsOutcome command NoPipeline = HasEngine command
+IsOutcome command PlanRefused = HasPlan command
+IsOutcome command PlanInvalid = HasPlan command
+IsOutcome command NumberTooLarge = HasPlan command
+IsOutcome command status = ⊥
 
 -- The statuses of a command, and the places that they carry: that of an input, or of an output where a write failed.
 abbrev pub IsPlaced : Option Command → Status → Type 0
@@ -142,6 +165,9 @@ IsPlaced command DomainRefused = ⊤
 IsPlaced command ProblemRefused = ⊤
 IsPlaced command EngineRefused = HasEngine command
 IsPlaced command NoPipeline = HasEngine command
+IsPlaced command PlanRefused = HasPlan command
+IsPlaced command PlanInvalid = HasPlan command
+IsPlaced command NumberTooLarge = HasPlan command
 IsPlaced command status = ⊥
 
 -- the count of no name rose, from the first place to the last

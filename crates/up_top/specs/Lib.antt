@@ -4,4 +4,5 @@ pub mod Code
 pub mod Inputs
 pub mod Run
 pub mod Says
+pub mod Verdicts
 pub mod Words

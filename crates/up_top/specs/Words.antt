@@ -2,7 +2,7 @@
 use Rattle.std.specs.Prelude.{⊤, ◌≤◌, ℕ, ◌+◌, ◌*◌, ◌-◌, Bool, ◌&&◌, not, ◌==◌, nat_le, if◌then◌else◌, List, [], ◌∷◌, length, Option, None, Some, codes, bytes_eq, slice_get, slice_range, unwrap_or}
 use Rattle.std.specs.List.{list_any}
 use Rattle.up_top.specs.declared.command.Command.{Command}
-use Rattle.up_top.specs.declared.command.Command.TheVariants.{Kind, Pipeline, Compile}
+use Rattle.up_top.specs.declared.command.Command.TheVariants.{Kind, Pipeline, Compile, Validate}
 
 -- the word at a place
 unfoldable pub word_at : List (List ℕ) → ℕ → List ℕ
@@ -49,6 +49,7 @@ command_of words =
     else if (length words == 4) && bytes_eq (word_at words 0) (codes "pipeline") then Some Pipeline
     else if (nat_le 7 (length words)) && bytes_eq (word_at words 0) (codes "compile") then
     compile_with (are_outputs words) (limit_in words)
+    else if (length words == 4) && bytes_eq (word_at words 0) (codes "validate") then Some Validate
     else None
 
 -- how many words a command has
@@ -57,3 +58,4 @@ IsLongEnough None count = ⊤
 IsLongEnough (Some Kind) count = 3 ≤ count
 IsLongEnough (Some Pipeline) count = 4 ≤ count
 IsLongEnough (Some (Compile limit)) count = 7 ≤ count
+IsLongEnough (Some Validate) count = 4 ≤ count

@@ -1,10 +1,12 @@
 ghost use Rattle.std.specs.Prelude.{◌≡◌};
 
 use crate::status::Status;
+use crate::verdict::verdict_status;
 use up_check::{File, Reason};
 use up_kind::Kind;
 use up_pipeline::{Chain, EngineError};
 use up_text::{Name, Place};
+use up_validate::Verdict;
 
 /// Why a run ends early, where its words and a place in them say all.
 #[derive(Clone, Copy, Debug, PartialEq, Eq)]
@@ -54,6 +56,12 @@ pub enum Answer {
     },
     /// The reading of an engine stops.
     Unread(EngineError),
+    /// What a plan is for its problem.
+    Judged(Verdict),
+    /// The reading of a plan stops.
+    Unspelled(Place),
+    /// A number past the bound is met before a plan is judged, at the step with this number.
+    TooLarge(usize),
     Stopped(Stop),
 }
 
@@ -77,6 +85,9 @@ impl Answer {
             } => Status::ProblemRefused,
             Answer::Unread(EngineError::Memory) => Status::Memory,
             Answer::Unread(_) => Status::EngineRefused,
+            Answer::Judged(verdict) => verdict_status(verdict),
+            Answer::Unspelled(_) => Status::PlanRefused,
+            Answer::TooLarge(_) => Status::NumberTooLarge,
             Answer::Stopped(stop) => stop.status(),
         }
     }

@@ -47,12 +47,12 @@ pub(crate) fn features<W: Store>(alloc: Global, words: &[Word], store: &mut W) -
 // The chain for the problem of the inputs.
 #[tactic(auto, using(crate::proofs::Ends::ends, crate::proofs::Inputs::stops))]
 fn inputs_chain(alloc: Global, inputs: &Inputs) -> Result<Chain, Answer>
-    ensures chain { IfOk result (λ chain. HasChain inputs.now.sources.domain.items inputs.now.sources.problem.items inputs.now.engine.items chain.stages) }
-    ensures stops { IfErr result (StopsBefore inputs.now.sources.domain.items inputs.now.sources.problem.items inputs.now.engine.items) }
+    ensures chain { IfOk result (λ chain. HasChain inputs.now.sources.domain.items inputs.now.sources.problem.items inputs.now.third.items chain.stages) }
+    ensures stops { IfErr result (StopsBefore inputs.now.sources.domain.items inputs.now.sources.problem.items inputs.now.third.items) }
     ensures refused { IfErr result (λ answer. IsRefusal (status_of answer)) }
 {
     let problem = problem_of(alloc, &inputs.sources)?;
-    chain_of(alloc, &problem, &inputs.engine)
+    chain_of(alloc, &problem, &inputs.third)
 }
 
 /// The compilers for the problem of the words.

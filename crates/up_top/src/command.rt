@@ -10,4 +10,6 @@ pub enum Command {
         /// How much a compiler may make, from 1 to 5,000,000.
         limit: u64,
     },
+    /// Whether a plan is valid for a problem.
+    Validate,
 }

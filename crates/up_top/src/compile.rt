@@ -30,8 +30,8 @@ fn write_whole<W: Store>(
     requires outputs { HasOutputs (command_of words.now) }
     requires inputs { inputs_end (command_of words.now) ≡ 4 }
     requires forms { HaveForms inputs.now.sources.domain.items inputs.now.sources.problem.items }
-    requires whole { IsWhole inputs.now.engine.items whole.now.problem whole.now.map }
-    requires texts { IfSome (W.held store.old) (AreInputs words.now inputs.now.sources.domain.items inputs.now.sources.problem.items inputs.now.engine.items) }
+    requires whole { IsWhole inputs.now.third.items whole.now.problem whole.now.map }
+    requires texts { IfSome (W.held store.old) (AreInputs words.now inputs.now.sources.domain.items inputs.now.sources.problem.items inputs.now.third.items) }
     requires readable { IfSome (W.held store.old) (AreReadable words.now 4) }
     ensures of { IsOf (command_of words.now) result }
     ensures place { IsPlaced (command_of words.now) (status_of result) }

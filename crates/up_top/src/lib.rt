@@ -5,6 +5,7 @@ mod answer;
 mod ask;
 mod command;
 mod compile;
+mod judge;
 mod limit;
 mod lists;
 mod put;
@@ -14,6 +15,7 @@ mod status;
 #[cfg(test)]
 mod tests;
 mod top;
+mod verdict;
 mod whole;
 mod words;
 mod write;

@@ -22,9 +22,9 @@ pub(crate) fn put_line<K: Sink>(out: &mut K, front: &[u8], behind: &[u8]) -> Res
     out.put(b"\n")
 }
 
-// Puts two pieces.
+/// Puts two pieces.
 #[tactic(auto, using(crate::proofs::Puts::puts))]
-fn put_both<K: Sink>(out: &mut K, front: &[u8], behind: &[u8]) -> Result<(), SinkFailed>
+pub(crate) fn put_both<K: Sink>(out: &mut K, front: &[u8], behind: &[u8]) -> Result<(), SinkFailed>
     ensures whole { OnOk result (K.written out.new ≡ written_with (front.now ++ behind.now) (K.written out.old)) }
     ensures prefix { OnErr result (GotPrefix (front.now ++ behind.now) (K.written out.old) (K.written out.new)) }
     ensures failed { OnErr result (Rose (K.faults out.old) (K.faults out.new)) }
@@ -34,9 +34,9 @@ fn put_both<K: Sink>(out: &mut K, front: &[u8], behind: &[u8]) -> Result<(), Sin
     out.put(behind)
 }
 
-// Puts a number in decimal and what stands behind it.
+/// Puts a number in decimal and what stands behind it.
 #[tactic(auto, using(crate::proofs::Puts::puts))]
-fn put_number<K: Sink>(out: &mut K, number: u32, behind: &[u8]) -> Result<(), SinkFailed>
+pub(crate) fn put_number<K: Sink>(out: &mut K, number: u32, behind: &[u8]) -> Result<(), SinkFailed>
     ensures whole { OnOk result (K.written out.new ≡ written_with (decimal number ++ behind.now) (K.written out.old)) }
     ensures prefix { OnErr result (GotPrefix (decimal number ++ behind.now) (K.written out.old) (K.written out.new)) }
     ensures failed { OnErr result (Rose (K.faults out.old) (K.faults out.new)) }
@@ -155,9 +155,9 @@ pub(crate) fn put_engine<K: Sink>(out: &mut K, error: &EngineError) -> Result<()
     }
 }
 
-// Puts a line that ends in a count.
+/// Puts a line that ends in a count.
 #[tactic(auto, using(crate::proofs::Puts::puts))]
-fn put_count<K: Sink>(out: &mut K, front: &[u8], count: usize) -> Result<(), SinkFailed>
+pub(crate) fn put_count<K: Sink>(out: &mut K, front: &[u8], count: usize) -> Result<(), SinkFailed>
     ensures whole { OnOk result (K.written out.new ≡ written_with (front.now ++ decimal count ++ codes "\n") (K.written out.old)) }
     ensures prefix { OnErr result (GotPrefix (front.now ++ decimal count ++ codes "\n") (K.written out.old) (K.written out.new)) }
     ensures failed { OnErr result (Rose (K.faults out.old) (K.faults out.new)) }

@@ -43,11 +43,11 @@ pub(crate) struct Sources {
     pub problem: Vec<u8>,
 }
 
-/// The texts of a problem and an engine.
+/// The texts of a problem, and of an engine or a plan.
 #[derive(Drop)]
 pub(crate) struct Inputs {
     pub sources: Sources,
-    pub engine: Vec<u8>,
+    pub third: Vec<u8>,
 }
 
 /// Reads the domain and the problem.
@@ -75,7 +75,7 @@ pub(crate) fn read_sources<W: Store>(
     Ok(Sources { domain, problem })
 }
 
-/// Reads the domain, the problem and the engine.
+/// Reads the domain, the problem, and the engine or the plan.
 #[tactic(auto, using(crate::proofs::Inputs::held))]
 pub(crate) fn read_inputs<W: Store>(
     alloc: Global,
@@ -85,8 +85,8 @@ pub(crate) fn read_inputs<W: Store>(
     requires { 4 ≤ length words.now }
     ensures kept { W.held store.new ≡ W.held store.old }
     ensures readable { IfOk result (λ inputs. IfSome (W.held store.old) (AreReadable words.now 4)) }
-    ensures texts { IfOk result (λ inputs. IfSome (W.held store.old) (AreInputs words.now inputs.sources.domain.items inputs.sources.problem.items inputs.engine.items)) }
-    ensures engine { IfOk result (λ inputs. IfSome (W.held store.old) (IsHeld words.now 3 inputs.engine.items)) }
+    ensures texts { IfOk result (λ inputs. IfSome (W.held store.old) (AreInputs words.now inputs.sources.domain.items inputs.sources.problem.items inputs.third.items)) }
+    ensures third { IfOk result (λ inputs. IfSome (W.held store.old) (IsHeld words.now 3 inputs.third.items)) }
     ensures stop { IfErr result (λ stop. IsInputStop 4 (stop_status stop)) }
     ensures cause { IfErr result (λ stop. ReadCause W.faults W.misses W.larges words.now store.old store.new (stop_status stop)) }
     ensures told { IfErr result (λ stop. IfSome (W.held store.old) (StopsAt words.now (stop_status stop))) }
@@ -97,6 +97,6 @@ pub(crate) fn read_inputs<W: Store>(
     ensures losses { W.losses store.new ≡ W.losses store.old }
 {
     let sources = read_sources(alloc, words, store)?;
-    let engine = read_input(alloc, words, 3, store)?;
-    Ok(Inputs { sources, engine })
+    let third = read_input(alloc, words, 3, store)?;
+    Ok(Inputs { sources, third })
 }

@@ -6,6 +6,7 @@ ghost use Rattle.up_top.specs.Run.{HasPlace};
 use crate::answer::{Answer, Stop};
 use crate::lists::{put_chain, put_features};
 use crate::put::{put_actions, put_engine, put_line, put_refused};
+use crate::verdict::{put_too_large, put_unspelled, put_verdict};
 use crate::words::name_at;
 use up_store::{Sink, SinkFailed, Word};
 
@@ -51,6 +52,9 @@ pub(crate) fn put_answer<K: Sink>(
             name,
         } => put_refused(out, *file, *place, *reason, name.as_ref()),
         Answer::Unread(error) => put_engine(out, error),
+        Answer::Judged(verdict) => put_verdict(out, verdict),
+        Answer::Unspelled(place) => put_unspelled(out, *place),
+        Answer::TooLarge(step) => put_too_large(out, *step),
         Answer::Stopped(stop) => put_stop(words, *stop, out),
     }
 }

@@ -146,7 +146,7 @@ fn compiles_the_gripper(rt: HostRuntime) {
 }
 
 // Words, the domain, the problem and the engine; the status and the text.
-const CASES: [(&str, [&str; 3], u8, &str); 25] = [
+const CASES: [(&str, [&str; 3], u8, &str); 28] = [
     (
         "kind d p",
         [GRIPPER, ROOMS, ""],
@@ -278,6 +278,24 @@ const CASES: [(&str, [&str; 3], u8, &str); 25] = [
         "missing gone\n",
     ),
     (
+        "validate d p gone",
+        [GRIPPER, ROOMS, ""],
+        3,
+        "missing gone\n",
+    ),
+    (
+        "validate d p e",
+        ["", ROOMS, "("],
+        6,
+        "domain refused 1:1 expected\n",
+    ),
+    (
+        "validate d p e",
+        [GRIPPER, ROOMS, "("],
+        12,
+        "plan refused 1:2\n",
+    ),
+    (
         "compile d p e x x m",
         [GRIPPER, ROOMS, ENGINE],
         1,
@@ -325,7 +343,7 @@ fn opens_no_bracket_past_two_hundred(rt: HostRuntime) {
 }
 
 // Lines that fit no command.
-const USAGE: [&str; 12] = [
+const USAGE: [&str; 14] = [
     "",
     "kind",
     "kind d",
@@ -338,6 +356,8 @@ const USAGE: [&str; 12] = [
     "compile d p e od op m 5000001",
     "compile d p e od op m 1 1",
     "plan d p e od op m",
+    "validate d p",
+    "validate d p e od",
 ];
 
 #[test]
@@ -529,5 +549,219 @@ fn puts_the_kind(rt: HostRuntime) {
         let outcome = run_texts(alloc, "kind d p", [domain, problem, ""]).expect(&rt, "room");
         assert_eq!(rt; outcome.sink.bytes(), features.as_bytes());
         assert_eq!(rt; outcome.code, 0);
+    }
+}
+
+// Doors with more actions, and a number.
+const DEEDS: &str = "(define (domain s) (:types door)
+ (:predicates (p) (q) (r) (open ?d - door)) (:functions (f))
+ (:action a :precondition (p) :effect (and (q) (not (p))))
+ (:action e :effect (r))
+ (:action u :effect (and (p) (not (q))))
+ (:action d :effect (when (> (f) 0) (q)))
+ (:action inc :effect (and (increase (f) 2) (increase (f) 3)))
+ (:action set :effect (and (assign (f) 2) (increase (f) 3)))
+ (:action g :effect (scale-down (f) 0))
+ (:action s :effect (and (q) (when (q) (r))))
+ (:action t :precondition (p) :effect (and (p) (not (p))))
+ (:action twice :effect (scale-up (f) 2)))";
+
+const ONE: &str = "(define (problem s1) (:domain s) (:init (p) (= (f) 1)) (:goal (p)))";
+
+const MARKING: &str = "(define (domain u) (:types truck place) (:predicates (seen ?p - place))
+ (:functions (loc ?t - truck) - place)
+ (:action lift :parameters (?t - truck) :effect (assign (loc ?t) undefined))
+ (:action land :parameters (?t - truck ?p - place) :effect (assign (loc ?t) ?p))
+ (:action mark :parameters (?t - truck) :effect (seen (loc ?t)))
+ (:action split :parameters (?t - truck ?p ?q - place)
+  :effect (and (assign (loc ?t) ?p) (assign (loc ?t) ?q))))";
+
+// A domain, a problem and a plan; the status and the text.
+const VERDICTS: [(&str, &str, &str, u8, &str); 26] = [
+    (
+        GRIPPER,
+        ROOMS,
+        "0: (PICK ball1 rooma) ; first\n\n(move rooma roomb)\r\n(drop ball1 roomb)",
+        0,
+        "valid\n",
+    ),
+    (
+        GRIPPER,
+        ROOMS,
+        "(pick ball1 roomb)\n",
+        14,
+        "plan invalid step 1 precondition\n",
+    ),
+    (
+        GRIPPER,
+        ROOMS,
+        "(fly)\n",
+        14,
+        "plan invalid step 1 unknown\n",
+    ),
+    (
+        GRIPPER,
+        ROOMS,
+        "(move rooma)\n",
+        14,
+        "plan invalid step 1 arity\n",
+    ),
+    (GRIPPER, ROOMS, "", 14, "plan invalid goal\n"),
+    (GRIPPER, ROOMS, "é", 12, "plan refused 1:1\n"),
+    (GRIPPER, ROOMS, "(fly)\n(fly", 12, "plan refused 2:5\n"),
+    (
+        DEEDS,
+        "(define (problem s1) (:domain s) (:init (p)) (:goal (q)) (:constraints (sometime-before (q) (r))))",
+        "(a)\n",
+        14,
+        "plan invalid constraint 1\n",
+    ),
+    (
+        DEEDS,
+        "(define (problem s1) (:domain s) (:init (p)) (:goal (q)) (:constraints (sometime-before (q) (r))))",
+        "(e)\n(a)\n",
+        0,
+        "valid\n",
+    ),
+    (
+        DEEDS,
+        "(define (problem s1) (:domain s) (:init (p)) (:goal (q)) (:constraints (at-most-once (q))))",
+        "(a)\n(u)\n(a)\n",
+        14,
+        "plan invalid constraint 1\n",
+    ),
+    (
+        DEEDS,
+        "(define (problem s1) (:domain s) (:init (p)) (:goal (q)) (:constraints (at-most-once (q))))",
+        "(a)\n",
+        0,
+        "valid\n",
+    ),
+    (
+        DEEDS,
+        "(define (problem s1) (:domain s) (:init (p)) (:goal (p)))",
+        "(a)\n(d)\n",
+        14,
+        "plan invalid step 2 condition-undefined\n",
+    ),
+    (
+        DEEDS,
+        "(define (problem s1) (:domain s) (:init (p) (= (f) 1)) (:goal (p)) (:metric minimize (f)))",
+        "(inc)\n",
+        0,
+        "valid\nmetric 6\n",
+    ),
+    (
+        DEEDS,
+        "(define (problem s1) (:domain s) (:init (p)) (:goal (p)) (:metric minimize (f)))",
+        "",
+        0,
+        "valid\nmetric undefined\n",
+    ),
+    (
+        DEEDS,
+        "(define (problem s1) (:domain s) (:init (p) (= (f) 1)) (:goal (p)) (:metric minimize (/ (f) 4)))",
+        "(twice)\n",
+        0,
+        "valid\nmetric 1/2\n",
+    ),
+    (
+        DEEDS,
+        "(define (problem s1) (:domain s) (:init (p) (= (f) 1)) (:goal (p)) (:metric maximize (- (/ (f) 3) 2)))",
+        "",
+        0,
+        "valid\nmetric -5/3\n",
+    ),
+    (
+        WALK,
+        CHEAPEST,
+        "(walk n1 n2)\n(walk n2 n3)\n",
+        0,
+        "valid\nmetric 15/2\n",
+    ),
+    (
+        DEEDS,
+        ONE,
+        "(set)\n",
+        14,
+        "plan invalid step 1 number-conflict\n",
+    ),
+    (
+        DEEDS,
+        ONE,
+        "(g)\n",
+        14,
+        "plan invalid step 1 number-undefined\n",
+    ),
+    (DEEDS, ONE, "(t)\n", 0, "valid\n"),
+    (
+        DEEDS,
+        "(define (problem s1) (:domain s) (:init (p)) (:goal (r)))",
+        "(s)\n",
+        14,
+        "plan invalid goal\n",
+    ),
+    (
+        DEEDS,
+        "(define (problem s1) (:domain s) (:init (p)) (:goal (r)))",
+        "(s)\n(s)\n",
+        0,
+        "valid\n",
+    ),
+    (MARKING, LANDED, "(land t1 b)\n", 0, "valid\n"),
+    (
+        MARKING,
+        LANDED,
+        "(lift a)\n",
+        14,
+        "plan invalid step 1 argument-type\n",
+    ),
+    (
+        MARKING,
+        LANDED,
+        "(lift t1)\n(mark t1)\n",
+        14,
+        "plan invalid step 2 object-undefined\n",
+    ),
+    (
+        MARKING,
+        LANDED,
+        "(split t1 a b)\n",
+        14,
+        "plan invalid step 1 object-conflict\n",
+    ),
+];
+
+#[test]
+fn puts_the_verdict(rt: HostRuntime) {
+    let alloc = rt.alloc();
+    for (domain, problem, plan, code, text) in VERDICTS {
+        let outcome = run_texts(alloc, "validate d p e", [domain, problem, plan]).expect(
+            &rt, "room",
+        );
+        assert_eq!(rt; outcome.sink.bytes(), text.as_bytes());
+        assert_eq!(rt; outcome.code, code);
+    }
+}
+
+// A plan of so many doublings.
+fn doublings(alloc: Global, count: u8) -> Result<Vec<u8>, Memory> {
+    let mut plan = Vec::new(alloc);
+    for _ in 0..count {
+        plan.extend_from_slice(b"(twice)\n")?;
+    }
+    Ok(plan)
+}
+
+#[test]
+fn meets_the_bound_of_numbers(rt: HostRuntime) {
+    let alloc = rt.alloc();
+    for (count, code, text) in [(61, 0, "valid\n"), (62, 15, "number too large step 62\n")] {
+        let plan = doublings(alloc, count).expect(&rt, "room");
+        let texts = [DEEDS.as_bytes(), ONE.as_bytes(), plan.as_slice()];
+        let store = store_of(alloc, texts, List::new(alloc)).expect(&rt, "room");
+        let outcome = run_line(alloc, "validate d p e", store, None).expect(&rt, "room");
+        assert_eq!(rt; outcome.sink.bytes(), text.as_bytes());
+        assert_eq!(rt; outcome.code, code);
     }
 }

@@ -11,6 +11,7 @@ use crate::answer::{Answer, Stop};
 use crate::ask::{features, pipeline};
 use crate::command::Command;
 use crate::compile::compile;
+use crate::judge::validate;
 use crate::say::put_answer;
 use crate::status::Status;
 use crate::words::command_of;
@@ -37,6 +38,7 @@ fn work<W: Store>(alloc: Global, words: &[Word], store: &mut W) -> Answer
         Some(Command::Kind) => features(alloc, words, store),
         Some(Command::Pipeline) => pipeline(alloc, words, store),
         Some(Command::Compile { .. }) => compile(alloc, words, store),
+        Some(Command::Validate) => validate(alloc, words, store),
     }
 }
 
@@ -108,7 +110,7 @@ pub fn run<W: Store, K: Sink>(alloc: Global, words: &[Word], store: &mut W, out:
     // Where the words fit and nothing fails, the run is done, refuses a text or wants memory.
     ensures complete { is_some (command_of words.now) ≡ true → IfSome (W.held store.old) (λ files.
         AllWell W.faults W.losses words.now store.old store.new (K.faults out.old) (K.faults out.new) files
-        → IsOutcome result) }
+        → IsOutcome (command_of words.now) result) }
 {
     attempt(alloc, words, store, out)
 }

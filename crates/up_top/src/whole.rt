@@ -93,9 +93,9 @@ fn whole_with(alloc: Global, problem: Problem, engine: &[u8]) -> Result<Whole, A
 #[tactic(auto, using(crate::proofs::Inputs::stops))]
 pub(crate) fn whole_of(alloc: Global, inputs: &Inputs) -> Result<Whole, Answer>
     ensures forms { OnOk result (HaveForms inputs.now.sources.domain.items inputs.now.sources.problem.items) }
-    ensures whole { IfOk result (λ whole. IsWhole inputs.now.engine.items whole.problem whole.map) }
-    ensures stops { IfErr result (StopsBefore inputs.now.sources.domain.items inputs.now.sources.problem.items inputs.now.engine.items) }
+    ensures whole { IfOk result (λ whole. IsWhole inputs.now.third.items whole.problem whole.map) }
+    ensures stops { IfErr result (StopsBefore inputs.now.sources.domain.items inputs.now.sources.problem.items inputs.now.third.items) }
 {
     let problem = problem_of(alloc, &inputs.sources)?;
-    whole_with(alloc, problem, &inputs.engine)
+    whole_with(alloc, problem, &inputs.third)
 }

@@ -81,5 +81,8 @@ pub fn command_of(words: &[Word]) -> Option<Command>
     if words.len() >= 7 && name_at(words, 0).bytes() == b"compile".as_slice() {
         return compile_of(words);
     }
+    if words.len() == 4 && name_at(words, 0).bytes() == b"validate".as_slice() {
+        return Some(Command::Validate);
+    }
     None
 }
