@@ -109,8 +109,12 @@ engine_text (engine.NoKey word) = codes "engine refused " ++ named_text (codes "
 engine_text (engine.WrongType word) = codes "engine refused " ++ named_text (codes "wrong-type") word
 engine_text (engine.UnknownFeature word) = codes "engine refused " ++ named_text (codes "unknown-feature") word
 
+-- a front, and a line and a column that end the line
+abbrev pub place_behind : List ℕ → Place → List ℕ
+place_behind front place = front ++ ((decimal place.line ++ codes ":") ++ (decimal place.column ++ codes "\n"))
+
 abbrev pub unspelled_text : Place → List ℕ
-unspelled_text place = codes "plan refused " ++ ((decimal place.line ++ codes ":") ++ (decimal place.column ++ codes "\n"))
+unspelled_text place = place_behind (codes "plan refused ") place
 
 abbrev pub too_large_text : ℕ → List ℕ
 too_large_text number = codes "number too large step " ++ decimal number ++ codes "\n"

@@ -1,6 +1,6 @@
 ghost use Rattle.std.specs.Prelude.{◌≡◌, ◌≤◌, ◌++◌, codes, decimal, OnOk, OnErr};
 ghost use Rattle.up_store.specs.Outside.{Rose, written_with, GotPrefix};
-ghost use Rattle.up_top.specs.Answers.{too_large_text, unspelled_text, verdict_status};
+ghost use Rattle.up_top.specs.Answers.{place_behind, too_large_text, unspelled_text, verdict_status};
 ghost use Rattle.up_top.specs.Verdicts.{bad_step_text, divisor_text, fault_word, fraction_text, metric_text, verdict_text, why_word};
 
 use crate::put::{put_both, put_count, put_line, put_number};
@@ -74,17 +74,22 @@ fn put_fraction<K: Sink>(out: &mut K, number: Frac) -> Result<(), SinkFailed>
     put_divisor(out, number.denominator() as u64)
 }
 
-// Puts the line of a metric that is a number.
+// Puts a fraction between a front and an end.
 #[tactic(auto, using(crate::proofs::Puts::puts))]
-fn put_measured<K: Sink>(out: &mut K, number: Frac) -> Result<(), SinkFailed>
-    ensures whole { OnOk result (K.written out.new ≡ written_with (codes "metric " ++ (fraction_text number ++ codes "\n")) (K.written out.old)) }
-    ensures prefix { OnErr result (GotPrefix (codes "metric " ++ (fraction_text number ++ codes "\n")) (K.written out.old) (K.written out.new)) }
+fn put_measured<K: Sink>(
+    out: &mut K,
+    front: &[u8],
+    number: Frac,
+    end: &[u8],
+) -> Result<(), SinkFailed>
+    ensures whole { OnOk result (K.written out.new ≡ written_with (front.now ++ (fraction_text number ++ end.now)) (K.written out.old)) }
+    ensures prefix { OnErr result (GotPrefix (front.now ++ (fraction_text number ++ end.now)) (K.written out.old) (K.written out.new)) }
     ensures failed { OnErr result (Rose (K.faults out.old) (K.faults out.new)) }
     ensures counts { K.faults out.old ≤ K.faults out.new }
 {
-    out.put(b"metric ")?;
+    out.put(front)?;
     put_fraction(out, number)?;
-    out.put(b"\n")
+    out.put(end)
 }
 
 // Puts the line of a metric, if there is one.
@@ -98,31 +103,37 @@ fn put_metric<K: Sink>(out: &mut K, metric: Value) -> Result<(), SinkFailed>
     match metric {
         Value::None => Ok(()),
         Value::Undefined => out.put(b"metric undefined\n"),
-        Value::Number(number) => put_measured(out, number),
+        Value::Number(number) => put_measured(out, b"metric ", number, b"\n"),
     }
 }
 
+// Puts a front and the line of a metric.
 #[tactic(auto, using(crate::proofs::Puts::puts))]
-fn put_valid<K: Sink>(out: &mut K, metric: Value) -> Result<(), SinkFailed>
-    ensures whole { OnOk result (K.written out.new ≡ written_with (codes "valid\n" ++ metric_text metric) (K.written out.old)) }
-    ensures prefix { OnErr result (GotPrefix (codes "valid\n" ++ metric_text metric) (K.written out.old) (K.written out.new)) }
+fn put_valid<K: Sink>(out: &mut K, front: &[u8], metric: Value) -> Result<(), SinkFailed>
+    ensures whole { OnOk result (K.written out.new ≡ written_with (front.now ++ metric_text metric) (K.written out.old)) }
+    ensures prefix { OnErr result (GotPrefix (front.now ++ metric_text metric) (K.written out.old) (K.written out.new)) }
     ensures failed { OnErr result (Rose (K.faults out.old) (K.faults out.new)) }
     ensures counts { K.faults out.old ≤ K.faults out.new }
 {
-    out.put(b"valid\n")?;
+    out.put(front)?;
     put_metric(out, metric)
 }
 
-// Puts which step can't be taken, and why.
+// Puts a front, a step's number and a word, and ends the line.
 #[tactic(auto, using(crate::proofs::Puts::puts))]
-fn put_bad_step<K: Sink>(out: &mut K, step: usize, word: &[u8]) -> Result<(), SinkFailed>
-    ensures whole { OnOk result (K.written out.new ≡ written_with (bad_step_text step word.now) (K.written out.old)) }
-    ensures prefix { OnErr result (GotPrefix (bad_step_text step word.now) (K.written out.old) (K.written out.new)) }
+fn put_bad_step<K: Sink>(
+    out: &mut K,
+    front: &[u8],
+    step: usize,
+    word: &[u8],
+) -> Result<(), SinkFailed>
+    ensures whole { OnOk result (K.written out.new ≡ written_with (bad_step_text front.now step word.now) (K.written out.old)) }
+    ensures prefix { OnErr result (GotPrefix (bad_step_text front.now step word.now) (K.written out.old) (K.written out.new)) }
     ensures failed { OnErr result (Rose (K.faults out.old) (K.faults out.new)) }
     ensures counts { K.faults out.old ≤ K.faults out.new }
 {
     let mut buffer = Buffer::new();
-    put_both(out, b"plan invalid step ", buffer.format(step).as_bytes())?;
+    put_both(out, front, buffer.format(step).as_bytes())?;
     put_line(out, b" ", word)
 }
 
@@ -134,8 +145,10 @@ pub(crate) fn put_verdict<K: Sink>(out: &mut K, verdict: &Verdict) -> Result<(),
     ensures counts { K.faults out.old ≤ K.faults out.new }
 {
     match verdict {
-        Verdict::Valid { metric } => put_valid(out, *metric),
-        Verdict::BadStep { step, why } => put_bad_step(out, *step, fault_word(*why)),
+        Verdict::Valid { metric } => put_valid(out, b"valid\n", *metric),
+        Verdict::BadStep { step, why } => {
+            put_bad_step(out, b"plan invalid step ", *step, fault_word(*why))
+        }
         Verdict::GoalOpen => out.put(b"plan invalid goal\n"),
         Verdict::Broken { constraint } => {
             put_count(out, b"plan invalid constraint ", *constraint)
@@ -143,17 +156,27 @@ pub(crate) fn put_verdict<K: Sink>(out: &mut K, verdict: &Verdict) -> Result<(),
     }
 }
 
-/// Puts where a plan text has its first fault.
+// Puts a front and a place, and ends the line.
 #[tactic(auto, using(crate::proofs::Puts::puts))]
+fn put_place_behind<K: Sink>(out: &mut K, front: &[u8], place: Place) -> Result<(), SinkFailed>
+    ensures whole { OnOk result (K.written out.new ≡ written_with (place_behind front.now place) (K.written out.old)) }
+    ensures prefix { OnErr result (GotPrefix (place_behind front.now place) (K.written out.old) (K.written out.new)) }
+    ensures failed { OnErr result (Rose (K.faults out.old) (K.faults out.new)) }
+    ensures counts { K.faults out.old ≤ K.faults out.new }
+{
+    out.put(front)?;
+    put_number(out, place.line, b":")?;
+    put_number(out, place.column, b"\n")
+}
+
+/// Puts where a plan text has its first fault.
 pub(crate) fn put_unspelled<K: Sink>(out: &mut K, place: Place) -> Result<(), SinkFailed>
     ensures whole { OnOk result (K.written out.new ≡ written_with (unspelled_text place) (K.written out.old)) }
     ensures prefix { OnErr result (GotPrefix (unspelled_text place) (K.written out.old) (K.written out.new)) }
     ensures failed { OnErr result (Rose (K.faults out.old) (K.faults out.new)) }
     ensures counts { K.faults out.old ≤ K.faults out.new }
 {
-    out.put(b"plan refused ")?;
-    put_number(out, place.line, b":")?;
-    put_number(out, place.column, b"\n")
+    put_place_behind(out, b"plan refused ", place)
 }
 
 /// Puts at which step a number past the bound is met.
