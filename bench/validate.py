@@ -32,6 +32,7 @@ def main():
                 sys.exit(f"{facts} facts, {steps} steps: {answer!r}")
             times.append(seconds)
             print(f"{facts:>7} facts, {steps} steps: {seconds:6.2f} s, {steps / seconds:8.0f} steps/s")
+    print("each argument is looked for in the list of objects, so a step's time grows with these")
     print(f"twice the steps: {times[1] / times[0]:.1f} times; ten times the facts: {times[2] / times[0]:.1f} times")
 
 
