@@ -1,8 +1,9 @@
 use crate::written_texts::{GRIPPER, GRIPPER_PROBLEM};
 use std::alloc::Global;
 use up_check::read_problem;
-use up_eval::{State, Truth};
-use up_tree::Problem;
+use up_eval::{State, StepError, Truth};
+use up_text::{List, Name};
+use up_tree::{Formula, Problem, Step, Term};
 
 /// Two texts, the domain's and the problem's, and what the goal is in the initial state.
 #[derive(Clone, Copy)]
@@ -70,5 +71,91 @@ fn problems_begin_as_due(rt: HostRuntime) {
     for due in STARTS {
         let [_, problem] = due.texts;
         assert!(rt; starts(rt.alloc(), due), "{problem}");
+    }
+}
+
+/// A step on the initial state of the two rooms, why it isn't taken if it isn't, and an atom that holds afterwards.
+struct Taking {
+    action: &'static str,
+    args: &'static [&'static str],
+    refusal: Option<StepError>,
+    holds: &'static [&'static str],
+}
+
+const TAKINGS: &[Taking] = &[
+    Taking {
+        action: "move",
+        args: &["rooma", "roomb"],
+        refusal: None,
+        holds: &["at-robby", "roomb"],
+    },
+    // The state stays.
+    Taking {
+        action: "fly",
+        args: &[],
+        refusal: Some(StepError::Unknown),
+        holds: &["free"],
+    },
+];
+
+fn name(alloc: Global, text: &str) -> Option<Name> {
+    Name::read(alloc, text.as_bytes()).ok()
+}
+
+fn names(alloc: Global, texts: &[&str]) -> Option<List<Name>> {
+    let mut names = List::new(alloc);
+    for text in texts {
+        names.push(name(alloc, text)?).ok()?;
+    }
+    Some(names)
+}
+
+fn step(alloc: Global, due: &Taking) -> Option<Step> {
+    let action = name(alloc, due.action)?;
+    let args = names(alloc, due.args)?;
+    Some(Step { action, args })
+}
+
+// The atom of a predicate and objects.
+fn atom(alloc: Global, words: &[&str]) -> Option<Formula> {
+    let (predicate, objects) = words.split_first()?;
+    let mut terms = List::new(alloc);
+    for object in objects {
+        terms.push(Term::Object(name(alloc, object)?)).ok()?;
+    }
+    Some(Formula::Atom(name(alloc, predicate)?, terms))
+}
+
+fn holds(alloc: Global, state: &State, problem: &Problem, due: &Taking) -> bool {
+    match atom(alloc, due.holds) {
+        Some(atom) => state.truth(alloc, problem, &atom) == Ok(Truth::True),
+        None => false,
+    }
+}
+
+fn takes(alloc: Global, state: State, problem: &Problem, due: &Taking) -> bool {
+    let mut state = state;
+    match step(alloc, due) {
+        Some(step) => {
+            state.take(problem, &step).err() == due.refusal && holds(alloc, &state, problem, due)
+        }
+        None => false,
+    }
+}
+
+fn is_taken(alloc: Global, due: &Taking) -> bool {
+    match read_problem(alloc, GRIPPER.as_bytes(), GRIPPER_PROBLEM.as_bytes()) {
+        Ok(problem) => match State::init(alloc, &problem) {
+            Ok(state) => takes(alloc, state, &problem, due),
+            Err(_) => false,
+        },
+        Err(_) => false,
+    }
+}
+
+#[test]
+fn steps_are_taken_as_due(rt: HostRuntime) {
+    for due in TAKINGS {
+        assert!(rt; is_taken(rt.alloc(), due), "{}", due.action);
     }
 }

@@ -19,7 +19,7 @@ use Rattle.up_eval.specs.declared.step_error.StepError.TheVariants as refused
 use Rattle.up_eval.specs.Steps.{Fits, IsUnfit}
 
 module _ (w : World) (t o : Name) where
-  found : (es : List Typed) → is_object_of w t es o ≡ true → Member o (names_below w t es)
+  pub found : (es : List Typed) → is_object_of w t es o ≡ true → Member o (names_below w t es)
   found [] e = absurd (true≢false (sym e))
   found (x ∷ es) e = by (same_name x.name o) refl (is_below w x.of t) (found es) e
     where
@@ -75,7 +75,7 @@ module _ (w : World) where
       by true is rest e (inr h) = rest e h
       by false is rest e h = true≢false (sym e)
 
-  untyped_one : (args : List Name) (params : List Typed) → are_typed w args params ≡ false → Somewhere (λ pair. ¬ Member pair.0 (objects_of w pair.1.of)) (zip args params)
+  pub untyped_one : (args : List Name) (params : List Typed) → are_typed w args params ≡ false → Somewhere (λ pair. ¬ Member pair.0 (objects_of w pair.1.of)) (zip args params)
   untyped_one [] params e = absurd (true≢false e)
   untyped_one (a ∷ args) [] e = absurd (true≢false e)
   untyped_one (a ∷ args) (v ∷ params) e = by (is_object_of w v.of w.objects a) refl (untyped_one args params) e

@@ -11,4 +11,6 @@ pub mod Steps
 pub mod Stops
 pub mod OfEffects
 pub mod Gathered
+pub mod Types
+pub mod Stays
 pub mod StateChanges

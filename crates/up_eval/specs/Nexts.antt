@@ -1,7 +1,10 @@
 -- The state that a step's changes leave, and what stops them.
 use Rattle.std.specs.Prelude.{◌⊎◌, ⊤, List}
 use Rattle.std.specs.FinSet as set
+use Rattle.up_tree.specs.declared.problem.Parts.{Parts}
 use Rattle.up_tree.specs.State.{State}
+use Rattle.up_tree.specs.StateOf.{IsStateOf}
+use Rattle.up_tree.specs.WellFormed.{IsWellFormed}
 use Rattle.up_tree.specs.Instances.{Fired}
 use Rattle.up_tree.specs.Changes.{number_change, of_firing}
 use Rattle.up_tree.specs.Faults.{OfEffect, ObjectUndefined, NumberUndefined, NumbersConflict, ObjectsConflict}
@@ -19,6 +22,10 @@ state_with s c = record {
   numbers = put_numbers s.numbers c.numbers;
   values = put_objects s.values c.objects;
 }
+
+-- of a well-formed problem, and where the first is a state of it, the second is one too
+abbrev pub StaysOf : Parts → State → State → Type 0
+StaysOf p s t = IsWellFormed p → IsStateOf p s → IsStateOf p t
 
 -- nothing that the effects need is undefined, and no two of them conflict
 pub record HaveNoFault (s : State) (fs : List Fired) : Type 0 where

@@ -1,4 +1,4 @@
-ghost use Rattle.std.specs.Prelude.{◌≡◌, IfOk, IfErr, OnOk, map};
+ghost use Rattle.std.specs.Prelude.{◌≡◌, IfOk, IfErr, OnOk, OnErr, map};
 ghost use Rattle.up_tree.specs.Objects.{world};
 ghost use Rattle.up_tree.specs.Instances.{firing};
 ghost use Rattle.up_tree.specs.Changes.{number_change, object_change, added, deleted, of_firing, changed};
@@ -7,7 +7,7 @@ ghost use Rattle.up_eval.specs.Firing.{meant_all};
 ghost use Rattle.up_eval.specs.Effects.{object_meant};
 ghost use Rattle.up_eval.specs.Gathering.{settled_numbers, Agree};
 ghost use Rattle.up_eval.specs.Steps.{ActionHasNone, IsStop, IsRefusal, all_faults};
-ghost use Rattle.up_eval.specs.Nexts.{state_with, HaveNoFault, IsNewNumbersStop, IsNewObjectsStop, IsEffectsStop};
+ghost use Rattle.up_eval.specs.Nexts.{state_with, StaysOf, HaveNoFault, IsNewNumbersStop, IsNewObjectsStop, IsEffectsStop};
 
 use crate::arguments::fitting_action;
 use crate::changes::ObjectChange;
@@ -115,6 +115,7 @@ impl State {
     // What the step changes, where it can be taken.
     fn changes(&self, alloc: Global, p: &Problem, step: &Step) -> Result<Changes, StepError>
         ensures next { IfOk result (λ c. IsNext p.now self.now step.now (state_with self.now c)) }
+        ensures typed { IfOk result (λ c. StaysOf p.now self.now (state_with self.now c)) }
         ensures can { OnOk result (CanTake p.now self.now step.now) }
         ensures refused { IfErr result (IsRefusal p.now self.now step.now) }
     {
@@ -133,6 +134,7 @@ impl State {
     /// arguments, where a value that it needs or leaves is past the bound; `Memory` where an allocation failed.
     pub fn step(&self, alloc: Global, p: &Problem, step: &Step) -> Result<State, StepError>
         ensures next { IfOk result (IsNext p.now self.now step.now) }
+        ensures typed { IfOk result (StaysOf p.now self.now) }
         ensures can { OnOk result (CanTake p.now self.now step.now) }
         ensures refused { IfErr result (IsRefusal p.now self.now step.now) }
     {
@@ -148,11 +150,28 @@ impl State {
     /// grows with what the step changes, not with the state. The errors are those of `step`.
     pub fn after(self, alloc: Global, p: &Problem, step: &Step) -> Result<State, StepError>
         ensures next { IfOk result (IsNext p.now self step.now) }
+        ensures typed { IfOk result (StaysOf p.now self) }
         ensures can { OnOk result (CanTake p.now self step.now) }
         ensures refused { IfErr result (IsRefusal p.now self step.now) }
     {
         let changes = self.changes(alloc, p, step)?;
         let next = self.changed(alloc, changes)?;
         Ok(next)
+    }
+
+    /// Takes a step: the state becomes the one after it (PDDL 2.1, Fox and Long 2003).
+    ///
+    /// The errors are those of `step`, and the state is then as before. The new state is made beside the old one, by the allocator
+    /// that the state keeps.
+    pub fn take(&mut self, p: &Problem, step: &Step) -> Result<(), StepError>
+        ensures next { OnOk result (IsNext p.now self.old step.now self.new) }
+        ensures typed { OnOk result (StaysOf p.now self.old self.new) }
+        ensures can { OnOk result (CanTake p.now self.old step.now) }
+        ensures refused { IfErr result (IsRefusal p.now self.old step.now) }
+        ensures stays { OnErr result (self.new ≡ self.old) }
+    {
+        let next = self.step(self.alloc, p, step)?;
+        *self = next;
+        Ok(())
     }
 }

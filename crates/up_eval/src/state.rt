@@ -16,9 +16,11 @@ use up_frac::Frac;
 use up_text::{List, Memory, Name};
 use up_tree::{Fact, NumberFact, Parts, Problem, Term, ValueFact};
 
-/// Which ground atoms are true, and the numbers and objects of the ground terms that have a value.
+/// Which ground atoms are true, and the numbers and objects of the ground terms that have a value. It keeps an allocator.
 #[derive(Drop)]
 pub struct State {
+    /// By which the state grows.
+    pub(crate) alloc: Global,
     atoms: Atoms,
     numbers: Table<Frac>,
     values: Table<Name>,
@@ -76,6 +78,7 @@ impl State {
         let numbers = self.numbers.copy(alloc)?;
         let values = self.values.copy(alloc)?;
         Ok(State {
+            alloc,
             atoms,
             numbers,
             values,
@@ -90,6 +93,7 @@ impl State {
             atoms,
             numbers,
             values,
+            ..
         } = self;
         let atoms = atoms
             .without(changes.deleted.as_slice())
@@ -97,6 +101,7 @@ impl State {
         let numbers = numbers.with_numbers(alloc, changes.numbers.as_slice())?;
         let values = values.with_objects(alloc, changes.objects.as_slice())?;
         Ok(State {
+            alloc,
             atoms,
             numbers,
             values,
@@ -123,6 +128,7 @@ fn state_of(alloc: Global, parts: &Parts) -> Result<State, Memory>
     let numbers = numbers_of(alloc, &parts.numbers)?;
     let values = values_of(alloc, &parts.values)?;
     Ok(State {
+        alloc,
         atoms,
         numbers,
         values,

@@ -5,6 +5,7 @@ use Rattle.up_tree.specs.Changes.{changed}
 use Rattle.up_eval.specs.Steps.{IsRefusal, IsStop, ActionHasNone, all_faults}
 use Rattle.up_eval.proofs.Stops.{stopped}
 use Rattle.up_eval.proofs.StateChanges.{can_take, step_stops, next_is}
+use Rattle.up_eval.proofs.Stays.{next_stays}
 use Rattle.up_eval.proofs.state.State.changes.Goals as goal
 
 pub returns-in_err-action-clause-refused : goal.returns-in_err-action-clause-refused
@@ -32,3 +33,6 @@ returns-in-Err-clause-refused c =
     subst (IsRefusal p s c.args.step.now) (sym c.error.ensures)
     (step_stops p s c.args.step.now c.in_ok-action.action.now c.in_ok-action.ensures.action c.in_ok-action.ensures.fits _
     (subst (λ args. IsStop (world p) s c.in_ok-action.action.now args c.in-Err.stop) c.as_slice.ensures c.in-Err.ensures.stop))
+
+pub returns-in-Ok-clause-typed : goal.returns-in-Ok-clause-typed
+returns-in-Ok-clause-typed c = next_stays c.args.p.now c.args.self.now c.args.step.now _ (returns-in-Ok-clause-can c) (returns-in-Ok-clause-next c)
