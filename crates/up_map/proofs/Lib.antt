@@ -4,6 +4,7 @@ pub mod Kept
 pub mod Laws
 pub mod Lining
 pub mod Numbers
+pub mod Spelling
 pub mod Splitting
 pub mod Tables
 pub mod Wording

@@ -18,7 +18,7 @@ mod write;
 
 pub use back_error::BackError;
 pub use converting::back;
-pub use law::map_text_law;
+pub use law::{map_text_law, written_map_law, written_reads_back};
 pub use map::Map;
 pub use map_error::MapError;
 pub use piecewise::MapPieces;

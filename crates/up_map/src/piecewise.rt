@@ -5,7 +5,7 @@ ghost use Rattle.up_map.specs.Walk.{map_left};
 
 use crate::steps::MapSteps;
 use std::alloc::Global;
-use up_line::{Line, Steps, longest_piece};
+use up_line::{Line, Steps};
 use up_store::Pieces;
 use up_text::Memory;
 
@@ -22,11 +22,16 @@ impl<'p> MapPieces<'p> {
     ghost use Rattle.std.specs.List.{concat};
     ghost use Rattle.up_map.specs.Pieces.{map_bytes};
 
+    // The pieces that are left, none of which is longer than `most`.
     #[tactic(auto, using(up_line::proofs::Sheets::measures))]
-    pub(crate) fn new(alloc: Global, steps: MapSteps<'p>) -> Result<MapPieces<'p>, Memory>
+    pub(crate) fn new(
+        alloc: Global,
+        steps: MapSteps<'p>,
+        most: usize,
+    ) -> Result<MapPieces<'p>, Memory>
+        requires { longest (map_left steps) ≤ most }
         ensures { IfOk result (λ d. map_bytes d ≡ concat (map_left steps.entry)) }
     {
-        let most = longest_piece(alloc, steps)?;
         let line = Line::with_room(alloc, most)?;
         Ok(MapPieces { steps, line })
     }

@@ -1,9 +1,11 @@
-ghost use Rattle.std.specs.Prelude.{◌≡◌, decimal, option_map};
+ghost use Rattle.std.specs.Prelude.{◌≡◌, ◌<◌, ◌^◌, decimal, option_map};
+ghost use Rattle.up_text.specs.Lists.{Every};
 ghost use Rattle.up_line.specs.Sheet.{after};
 ghost use Rattle.up_line.specs.Steps.{StepsFrom, StepsOn};
 ghost use Rattle.up_line.specs.Spaced.{spaced};
 ghost use Rattle.up_map.specs.Texts.{item_text, target_text, entry_line, chain_line, stage_text, entry_lines};
 ghost use Rattle.up_map.specs.Rests.{map_rest};
+ghost use Rattle.up_map.specs.Spells.{HasName, HasNames, IsEntry};
 
 use crate::map::Map;
 use itoa::Buffer;
@@ -27,7 +29,8 @@ pub struct MapSteps<'p> {
 }
 
 fn put_count(line: &mut Line, count: usize)
-    ensures { line.new ≡ after line.old (decimal count) }
+    ensures text { line.new ≡ after line.old (decimal count) }
+    ensures word { count < 2 ^ 64 }
 {
     let mut buffer = Buffer::new();
     line.put(buffer.format(count).as_bytes());
@@ -35,7 +38,8 @@ fn put_count(line: &mut Line, count: usize)
 
 #[tactic(auto, using(up_line::proofs::Sheets::puts))]
 fn put_item(line: &mut Line, item: &Item)
-    ensures { line.new ≡ after line.old (item_text item.now) }
+    ensures text { line.new ≡ after line.old (item_text item.now) }
+    ensures name { HasName item.now }
 {
     match item {
         Item::Argument(place) => {
@@ -49,7 +53,8 @@ fn put_item(line: &mut Line, item: &Item)
 // Items, each with a space before it.
 #[tactic(auto, using(up_line::proofs::Sheets::puts))]
 fn put_items(line: &mut Line, items: &[Item])
-    ensures { line.new ≡ after line.old (spaced item_text items.now) }
+    ensures text { line.new ≡ after line.old (spaced item_text items.now) }
+    ensures names { Every HasName items.now }
 {
     for item in items {
         line.put(b" ");
@@ -59,7 +64,8 @@ fn put_items(line: &mut Line, items: &[Item])
 
 #[tactic(auto, using(up_line::proofs::Sheets::puts))]
 fn put_target(line: &mut Line, target: &Target)
-    ensures { line.new ≡ after line.old (target_text target.now) }
+    ensures text { line.new ≡ after line.old (target_text target.now) }
+    ensures names { HasNames target.now }
 {
     match target {
         Target::Drop => line.put(b" drop"),
@@ -73,7 +79,8 @@ fn put_target(line: &mut Line, target: &Target)
 
 #[tactic(auto, using(up_line::proofs::Sheets::puts))]
 pub fn put_entry(line: &mut Line, entry: &Entry)
-    ensures { line.new ≡ after line.old (entry_line entry.now) }
+    ensures text { line.new ≡ after line.old (entry_line entry.now) }
+    ensures entry { IsEntry entry.now }
 {
     line.put(b"action ");
     line.put(entry.action.bytes());
@@ -95,7 +102,7 @@ fn put_stages(line: &mut Line, stages: &[CompilerId])
 }
 
 #[tactic(auto, using(up_line::proofs::Sheets::puts))]
-fn put_chain(line: &mut Line, stages: &[CompilerId])
+pub fn put_chain(line: &mut Line, stages: &[CompilerId])
     ensures { line.new ≡ after line.old (chain_line stages.now) }
 {
     line.put(b"chain");
