@@ -11,11 +11,11 @@ use Rattle.pddl_parse.specs.declared.shape.ShapeError.{ShapeError}
 use Rattle.pddl_parse.specs.declared.shape.ShapeError.TheVariants as shape
 use Rattle.pddl_parse.specs.Shapes.{Read}
 use Rattle.pddl_parse.specs.Texts as texts
-use Rattle.up_check.specs.declared.fault.Fault.{Fault}
-use Rattle.up_check.specs.declared.fault.Fault.TheVariants as fault
-use Rattle.up_check.specs.declared.reason.File.{File}
-use Rattle.up_check.specs.declared.reason.ReadError.{ReadError}
-use Rattle.up_check.specs.declared.reason.ReadError.TheVariants.{Memory}
+use Rattle.up_phrase.specs.declared.fault.Fault.{Fault}
+use Rattle.up_phrase.specs.declared.fault.Fault.TheVariants as fault
+use Rattle.up_check.specs.declared.refusal.File.{File}
+use Rattle.up_check.specs.declared.refusal.ReadError.{ReadError}
+use Rattle.up_check.specs.declared.refusal.ReadError.TheVariants.{Memory}
 use Rattle.up_check.specs.Refusals.{bytes_refused, shape_refused, refused}
 use Rattle.up_check.specs.Passes.{HasForm, Stops, IsForm, IsOfFile, HaveForms, StopsInDomain, StopsInProblem, FirstFault}
 

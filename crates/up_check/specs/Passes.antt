@@ -10,11 +10,11 @@ use Rattle.pddl_lex.specs.Verdicts.{fine, first}
 use Rattle.pddl_parse.specs.declared.shape.ShapeError.{ShapeError}
 use Rattle.pddl_parse.specs.Shapes.{Read}
 use Rattle.pddl_parse.specs.Texts as texts
-use Rattle.up_check.specs.declared.reason.File.{File}
-use Rattle.up_check.specs.declared.reason.File.TheVariants as file
-use Rattle.up_check.specs.declared.reason.Reason.{Reason}
-use Rattle.up_check.specs.declared.reason.ReadError.{ReadError}
-use Rattle.up_check.specs.declared.reason.ReadError.TheVariants.{Refused}
+use Rattle.up_check.specs.declared.refusal.File.{File}
+use Rattle.up_check.specs.declared.refusal.File.TheVariants as file
+use Rattle.up_phrase.specs.declared.reason.Reason.{Reason}
+use Rattle.up_check.specs.declared.refusal.ReadError.{ReadError}
+use Rattle.up_check.specs.declared.refusal.ReadError.TheVariants.{Refused}
 use Rattle.up_check.specs.Refusals.{bytes_refused, shape_refused}
 
 -- the bracket trees of a text that opens no bracket too deep

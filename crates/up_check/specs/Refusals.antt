@@ -5,13 +5,13 @@ use Rattle.pddl_lex.specs.declared.error.LexError.{LexError}
 use Rattle.pddl_lex.specs.declared.error.LexError.TheVariants as lex
 use Rattle.pddl_parse.specs.declared.shape.ShapeError.{ShapeError}
 use Rattle.pddl_parse.specs.declared.shape.ShapeError.TheVariants as shape
-use Rattle.up_check.specs.declared.fault.Fault.{Fault}
-use Rattle.up_check.specs.declared.fault.Fault.TheVariants as fault
-use Rattle.up_check.specs.declared.reason.File.{File}
-use Rattle.up_check.specs.declared.reason.Reason.{Reason}
-use Rattle.up_check.specs.declared.reason.Reason.TheVariants as reason
-use Rattle.up_check.specs.declared.reason.ReadError.{ReadError}
-use Rattle.up_check.specs.declared.reason.ReadError.TheVariants.{Memory, Refused}
+use Rattle.up_phrase.specs.declared.fault.Fault.{Fault}
+use Rattle.up_phrase.specs.declared.fault.Fault.TheVariants as fault
+use Rattle.up_check.specs.declared.refusal.File.{File}
+use Rattle.up_phrase.specs.declared.reason.Reason.{Reason}
+use Rattle.up_phrase.specs.declared.reason.Reason.TheVariants as reason
+use Rattle.up_check.specs.declared.refusal.ReadError.{ReadError}
+use Rattle.up_check.specs.declared.refusal.ReadError.TheVariants.{Memory, Refused}
 
 abbrev pub bare_refused : File → Place → Reason → ReadError
 bare_refused file place r = Refused file place r None

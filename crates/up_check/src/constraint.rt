@@ -1,10 +1,6 @@
-use crate::fault::Fault;
-use crate::formula::checked_formula;
-use crate::names::Names;
-use crate::scope::{Binder, Scope};
-use crate::term::Setting;
 use pddl_parse::{RawConstraint, RawFormula, RawGroup};
 use std::alloc::Global;
+use up_phrase::{Binder, Fault, Names, Scope, Setting, checked_formula};
 use up_text::{List, Memory};
 use up_tree::{Constraint, Formula, Rule};
 

@@ -1,12 +1,9 @@
-use crate::action::checked_action;
 use crate::constraint::push_constraints;
-use crate::declare::{declare_functions, declare_objects, declare_predicates};
-use crate::fault::{Fault, named};
-use crate::names::Names;
-use crate::reason::Reason;
-use crate::types::declared_types;
 use pddl_parse::{DomainForm, RawAction};
 use std::alloc::Global;
+use up_declare::{declare_functions, declare_objects, declare_predicates, declared_types};
+use up_effect::checked_action;
+use up_phrase::{Fault, Names, Reason, named};
 use up_text::{List, Memory, Name, NameSet};
 use up_tree::{Action, Constraint};
 

@@ -1,11 +1,9 @@
-use crate::fault::{Fault, bare, named};
-use crate::names::Names;
-use crate::reason::Reason;
 use indexmap::{IndexMap, IndexSet};
 use pddl_parse::{Ident, RawGround, RawInit, RawValue};
 use std::alloc::Global;
 use std::cmp::Ordering;
 use up_frac::Frac;
+use up_phrase::{Fault, Names, Reason, bare, named};
 use up_text::{Memory, Name, Place};
 use up_tree::Gives;
 

@@ -1,10 +1,6 @@
-use crate::expr::checked_expr;
-use crate::fault::Fault;
-use crate::names::Names;
-use crate::scope::Scope;
-use crate::term::Setting;
 use pddl_parse::RawMetric;
 use std::alloc::Global;
+use up_phrase::{Fault, Names, Scope, Setting, checked_expr};
 use up_tree::Metric;
 
 /// The metric of a problem, in which a bare name is a function without arguments.

@@ -1,16 +1,13 @@
 use crate::constraint::push_constraints;
-use crate::declare::declare_objects;
 use crate::domain::Domain;
-use crate::fault::{Fault, named};
-use crate::formula::checked_goal;
 use crate::init::{Ground, Init, checked_init};
 use crate::metric::checked_metric;
-use crate::names::{Names, Signature};
-use crate::reason::Reason;
 use indexmap::{IndexMap, IndexSet};
 use pddl_parse::{Ident, ProblemForm, RawFormula, RawInit, RawMetric};
 use std::alloc::Global;
+use up_declare::declare_objects;
 use up_frac::Frac;
+use up_phrase::{Fault, Names, Reason, Signature, checked_goal, named};
 use up_text::{Box, List, Memory, Name};
 use up_tree::{
     Action, Constraint, Fact, Formula, Function, Metric, NumberFact, Parts, Predicate, Problem,

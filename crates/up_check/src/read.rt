@@ -4,12 +4,12 @@ ghost use Rattle.up_check.specs.Passes.{FirstFault, HasForm, HaveForms, IsForm, 
 ghost use Rattle.up_check.specs.Refusals.{bare_refused, bytes_refused, refused, shape_refused};
 
 use crate::domain::{Domain, checked_domain};
-use crate::fault::Fault;
 use crate::problem::checked_problem;
-use crate::reason::{File, ReadError, Reason};
+use crate::refusal::{File, ReadError};
 use pddl_lex::{LexError, brackets};
 use pddl_parse::{DomainForm, ProblemForm, ShapeError, domain_form, problem_form};
 use std::alloc::Global;
+use up_phrase::{Fault, Reason};
 use up_text::Place;
 use up_tree::Problem;
 

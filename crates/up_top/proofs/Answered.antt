@@ -3,7 +3,7 @@ use Rattle.std.proofs.Common.{◌≡◌, ℕ, Bool, true, false, List, Option, N
 use Rattle.std.specs.Prelude.{IfSome, OnOk, OnErr, is_ok}
 use Rattle.up_store.specs.Outside.{Files, Rose, written_with, GotPrefix}
 use Rattle.up_store.specs.declared.sink.SinkFailed.{SinkFailed}
-use Rattle.up_check.specs.declared.reason.File.TheVariants as file
+use Rattle.up_check.specs.declared.refusal.File.TheVariants as file
 use Rattle.up_pipeline.specs.declared.engine.EngineError.TheVariants as engine
 use Rattle.up_top.specs.declared.command.Command.{Command}
 use Rattle.up_top.specs.declared.command.Command.TheVariants as command

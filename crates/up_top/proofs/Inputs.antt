@@ -9,7 +9,7 @@ use Rattle.up_compiler.specs.declared.id.CompilerId.{CompilerId}
 use Rattle.up_compiler.specs.declared.id.Chain.{Chain}
 use Rattle.up_tree.specs.declared.problem.Parts.{Parts}
 use Rattle.up_check.specs.Passes.{HaveForms}
-use Rattle.up_check.specs.declared.reason.File.TheVariants as file
+use Rattle.up_check.specs.declared.refusal.File.TheVariants as file
 use Rattle.up_pipeline.specs.declared.engine.EngineError.TheVariants as unread
 use Rattle.up_top.specs.declared.command.Command.{Command}
 use Rattle.up_top.specs.declared.command.Command.TheVariants as command

@@ -5,7 +5,7 @@ use Rattle.up_store.specs.Outside.{Files}
 use Rattle.up_tree.specs.declared.problem.Parts.{Parts}
 use Rattle.up_tree.specs.declared.problem.Plan.{Plan}
 use Rattle.up_check.specs.Passes.{HaveForms}
-use Rattle.up_check.specs.declared.reason.File.TheVariants as file
+use Rattle.up_check.specs.declared.refusal.File.TheVariants as file
 use Rattle.up_validate.specs.declared.verdict.Verdict.TheVariants as verdict
 use Rattle.plan_text.specs.Spells.{PlanText}
 use Rattle.up_top.specs.declared.command.Command.{Command}

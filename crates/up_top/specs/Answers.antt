@@ -6,10 +6,10 @@ use Rattle.up_kind.specs.Features.{feature_table}
 use Rattle.bitflags.specs.declared.traits.Flag.{Flag}
 use Rattle.up_compiler.specs.declared.id.CompilerId.{CompilerId}
 use Rattle.up_map.specs.Texts.{chain_line, stage_text}
-use Rattle.up_check.specs.declared.reason.File.{File}
-use Rattle.up_check.specs.declared.reason.Reason.{Reason}
-use Rattle.up_check.specs.Reasons.{reason_word}
-use Rattle.up_check.specs.declared.reason.File.TheVariants as file
+use Rattle.up_check.specs.declared.refusal.File.{File}
+use Rattle.up_phrase.specs.declared.reason.Reason.{Reason}
+use Rattle.up_phrase.specs.Reasons.{reason_word}
+use Rattle.up_check.specs.declared.refusal.File.TheVariants as file
 use Rattle.up_pipeline.specs.declared.engine.EngineError.{EngineError}
 use Rattle.up_pipeline.specs.declared.engine.EngineError.TheVariants as engine
 use Rattle.up_validate.specs.declared.verdict.Verdict.{Verdict}

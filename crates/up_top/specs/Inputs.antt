@@ -8,7 +8,7 @@ use Rattle.up_kind.specs.Features.{has}
 use Rattle.up_compiler.specs.declared.id.CompilerId.{CompilerId}
 use Rattle.up_tree.specs.declared.problem.Parts.{Parts}
 use Rattle.up_tree.specs.declared.problem.Plan.{Plan}
-use Rattle.up_check.specs.declared.reason.ReadError.TheVariants as read
+use Rattle.up_check.specs.declared.refusal.ReadError.TheVariants as read
 use Rattle.up_check.specs.Passes.{HaveForms, FirstFault}
 use Rattle.up_pipeline.specs.declared.engine.Engine.{Engine}
 use Rattle.up_pipeline.specs.declared.engine.EngineError.{EngineError}

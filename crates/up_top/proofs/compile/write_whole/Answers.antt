@@ -6,7 +6,7 @@ pub returns-in-Ok-write_outputs-clause-held : goal.returns-in-Ok-write_outputs-c
 returns-in-Ok-write_outputs-clause-held g c =
     wrote _ _ _ _ c.args.whole.now.problem c.args.whole.now.map _ _ _ c.requires.outputs _
     (outputs_engine _ _ _ _ _ c.requires.outputs c.requires.texts) c.requires.whole
-    c.in-Ok.ensures c.in-Ok-problem_pieces.ensures c.in-Ok-map_pieces.ensures c.in-Ok-write_outputs.ensures.held
+    c.in-Ok.ensures c.in-Ok-problem_pieces.ensures c.in-Ok-map_pieces.ensures.text c.in-Ok-write_outputs.ensures.held
 
 pub returns-in-Ok-write_outputs-clause-compiles : goal.returns-in-Ok-write_outputs-clause-compiles
 returns-in-Ok-write_outputs-clause-compiles g c =
@@ -14,10 +14,10 @@ returns-in-Ok-write_outputs-clause-compiles g c =
     (rw c.parts.ensures
     (compiles _ _ _ c.args.whole.now.problem c.args.whole.now.map _ _ _ _
     (outputs_engine _ _ _ _ _ c.requires.outputs c.requires.texts) c.requires.whole
-    c.in-Ok.ensures c.in-Ok-problem_pieces.ensures c.in-Ok-map_pieces.ensures c.in-Ok-write_outputs.ensures.held))
+    c.in-Ok.ensures c.in-Ok-problem_pieces.ensures c.in-Ok-map_pieces.ensures.text c.in-Ok-write_outputs.ensures.held))
 
 pub returns-clause-held : goal.returns-clause-held
 returns-clause-held g c =
     wrote _ _ _ _ c.args.whole.now.problem c.args.whole.now.map _ _ _ c.requires.outputs _
     (outputs_engine _ _ _ _ _ c.requires.outputs c.requires.texts) c.requires.whole
-    c.in-Ok.ensures c.in-Ok-problem_pieces.ensures c.in-Ok-map_pieces.ensures c.in-Err.ensures.held
+    c.in-Ok.ensures c.in-Ok-problem_pieces.ensures c.in-Ok-map_pieces.ensures.text c.in-Err.ensures.held

@@ -1,4 +1,0 @@
-use Rattle.up_check.proofs.expr.+halved.Given as goal
-
-abbrev pub decreases-halved : goal.decreases-halved
-decreases-halved l = l.count

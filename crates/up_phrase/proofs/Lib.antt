@@ -1,0 +1,9 @@
+pub mod Barring
+pub mod Climbing
+pub mod Entering
+pub mod ExprNodes
+pub mod FormulaNodes
+pub mod Pairing
+pub mod Steps
+pub mod TermNodes
+pub mod Zero

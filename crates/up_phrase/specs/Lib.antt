@@ -1,0 +1,11 @@
+pub mod Reasons
+pub mod Named
+pub mod Walks
+pub mod Declarations
+pub mod Lookups
+pub mod Scopes
+pub mod Barred
+pub mod Nodes
+pub mod Terms
+pub mod Exprs
+pub mod Conditions
