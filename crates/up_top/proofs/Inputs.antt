@@ -19,8 +19,8 @@ use Rattle.up_top.specs.declared.answer.Answer.{Answer}
 use Rattle.up_top.specs.declared.answer.Answer.TheVariants as answer
 use Rattle.up_top.specs.Answers.{status_of, stop_status}
 use Rattle.up_top.specs.Words.{command_of}
-use Rattle.up_top.specs.Cause.{IsHeld, IsKind, HasEngine, HasOutputs, HasThird, IsInputStop, IsPlaced, IsWriteStatus, IsRefusal}
-use Rattle.up_top.specs.Inputs.{AreInputs, AreSources, HasChain, HasFeatures, IsChosen, IsEarly, Says, SaysOfHeld, StopsBefore, StopsChoice, StopsRead, Tells}
+use Rattle.up_top.specs.Cause.{IsHeld, IsKind, HasEngine, IsCompile, HasThird, IsInputStop, IsPlaced, IsWriteStatus, IsRefusal}
+use Rattle.up_top.specs.Inputs.{AreFour, AreInputs, AreSources, HasChain, HasFeatures, IsChosen, IsEarly, Says, SaysOfHeld, StopsBefore, StopsChoice, StopsRead, Tells}
 use Rattle.up_top.specs.Run.{CompilesAt}
 
 -- ---- held texts
@@ -40,7 +40,16 @@ pub inputs_held : (words : List (List ℕ)) (domain problem engine : List ℕ) (
 inputs_held words domain problem engine None s e = tt
 inputs_held words domain problem engine (Some files) s e = record { sources = s; holds_third = λ _. e }
 
-pub ruleset held = (sources_read, inputs_held)
+four_held : (words : List (List ℕ)) (domain problem map plan : List ℕ) (held : Option Files) → IfSome held (AreInputs words domain problem map) → IfSome held (IsHeld words 3 map)
+    → IfSome held (IsHeld words 4 plan) → IfSome held (AreFour words domain problem map plan)
+four_held words domain problem map plan None inputs m e = tt
+four_held words domain problem map plan (Some files) inputs m e = record { sources = inputs.sources; holds_map = m; holds_plan = e }
+
+pub four_read : (words : List (List ℕ)) (domain problem map plan : List ℕ) (old mid : Option Files) → mid ≡ old → IfSome old (AreInputs words domain problem map)
+    → IfSome old (IsHeld words 3 map) → IfSome mid (IsHeld words 4 plan) → IfSome old (AreFour words domain problem map plan)
+four_read words domain problem map plan old mid same inputs m e = four_held words domain problem map plan old inputs m (rw same at e)
+
+pub ruleset held = (sources_read, inputs_held, four_read)
 
 -- ---- stops before the writes
 
@@ -53,6 +62,7 @@ read_stops domain problem engine (answer.Unread error) stops = absurd stops
 read_stops domain problem engine (answer.Judged verdict) stops = absurd stops
 read_stops domain problem engine (answer.Unspelled place) stops = absurd stops
 read_stops domain problem engine (answer.TooLarge number) stops = absurd stops
+read_stops domain problem engine (answer.Converted conversion) stops = absurd stops
 read_stops domain problem engine (answer.Stopped stop.Usage) stops = absurd stops
 read_stops domain problem engine (answer.Stopped stop.Memory) stops = record { early = tt; says = tt }
 read_stops domain problem engine (answer.Stopped (stop.Missing at)) stops = absurd stops
@@ -75,6 +85,7 @@ choice_stops domain problem engine parts (answer.Unread (unread.UnknownFeature w
 choice_stops domain problem engine parts (answer.Judged verdict) forms stops = absurd stops
 choice_stops domain problem engine parts (answer.Unspelled place) forms stops = absurd stops
 choice_stops domain problem engine parts (answer.TooLarge number) forms stops = absurd stops
+choice_stops domain problem engine parts (answer.Converted conversion) forms stops = absurd stops
 choice_stops domain problem engine parts (answer.Stopped stop.Usage) forms stops = absurd stops
 choice_stops domain problem engine parts (answer.Stopped stop.Memory) forms stops = record { early = tt; says = tt }
 choice_stops domain problem engine parts (answer.Stopped (stop.Missing at)) forms stops = absurd stops
@@ -117,6 +128,7 @@ before_refusal domain problem engine (answer.Unread (unread.UnknownFeature word)
 before_refusal domain problem engine (answer.Judged verdict) stops = absurd stops.early
 before_refusal domain problem engine (answer.Unspelled place) stops = absurd stops.early
 before_refusal domain problem engine (answer.TooLarge number) stops = absurd stops.early
+before_refusal domain problem engine (answer.Converted conversion) stops = absurd stops.early
 before_refusal domain problem engine (answer.Stopped stop.Usage) stops = absurd stops.early
 before_refusal domain problem engine (answer.Stopped stop.Memory) stops = tt
 before_refusal domain problem engine (answer.Stopped (stop.Missing at)) stops = absurd stops.early
@@ -150,6 +162,7 @@ no_third (Some command.Kind) kind has = has
 no_third (Some command.Pipeline) kind has = kind
 no_third (Some (command.Compile limit)) kind has = kind
 no_third (Some command.Validate) kind has = kind
+no_third (Some command.Back) kind has = kind
 
 kind_inputs : (words : List (List ℕ)) (domain problem : List ℕ) (files : Files) → IsKind (command_of words) → AreSources words domain problem files
     → AreInputs words domain problem [] files
@@ -166,6 +179,7 @@ says_held words domain problem third files (answer.Unread error) held says = rec
 says_held words domain problem third files (answer.Judged verdict) held says = record { domain = domain; problem = problem; third = third; held = held; says = says }
 says_held words domain problem third files (answer.Unspelled place) held says = record { domain = domain; problem = problem; third = third; held = held; says = says }
 says_held words domain problem third files (answer.TooLarge number) held says = record { domain = domain; problem = problem; third = third; held = held; says = says }
+says_held words domain problem third files (answer.Converted conversion) held says = absurd says
 says_held words domain problem third files (answer.Stopped stop.Usage) held says = tt
 says_held words domain problem third files (answer.Stopped stop.Memory) held says = tt
 says_held words domain problem third files (answer.Stopped (stop.Missing at)) held says = tt
@@ -228,22 +242,24 @@ write_tells words domain problem engine (Some files) (stop.WriteFault at) held f
 write_tells words domain problem engine (Some files) stop.NoPipeline held forms kind = absurd kind
 write_tells words domain problem engine (Some files) (stop.InputTooLarge at) held forms kind = absurd kind
 
-has_engine : (command : Option Command) → HasOutputs command → HasEngine command
+has_engine : (command : Option Command) → IsCompile command → HasEngine command
 has_engine None has = has
 has_engine (Some command.Kind) has = has
 has_engine (Some command.Pipeline) has = tt
 has_engine (Some (command.Compile limit)) has = has
 has_engine (Some command.Validate) has = absurd has
+has_engine (Some command.Back) has = absurd has
 
-has_third : (command : Option Command) → HasOutputs command → HasThird command
+has_third : (command : Option Command) → IsCompile command → HasThird command
 has_third None has = has
 has_third (Some command.Kind) has = has
 has_third (Some command.Pipeline) has = tt
 has_third (Some (command.Compile limit)) has = has
 has_third (Some command.Validate) has = tt
+has_third (Some command.Back) has = tt
 
 -- the engine text is held
-pub outputs_engine : (words : List (List ℕ)) (domain problem engine : List ℕ) (held : Option Files) → HasOutputs (command_of words)
+pub outputs_engine : (words : List (List ℕ)) (domain problem engine : List ℕ) (held : Option Files) → IsCompile (command_of words)
     → IfSome held (AreInputs words domain problem engine) → IfSome held (IsHeld words 3 engine)
 outputs_engine words domain problem engine None has inputs = tt
 outputs_engine words domain problem engine (Some files) has inputs = inputs.holds_third (has_third (command_of words) has)
@@ -264,6 +280,7 @@ early command (answer.Unread (unread.UnknownFeature word)) is has = has
 early command (answer.Judged verdict) is has = absurd is
 early command (answer.Unspelled place) is has = absurd is
 early command (answer.TooLarge number) is has = absurd is
+early command (answer.Converted conversion) is has = absurd is
 early command (answer.Stopped stop.Usage) is has = absurd is
 early command (answer.Stopped stop.Memory) is has = tt
 early command (answer.Stopped (stop.Missing at)) is has = absurd is
@@ -276,7 +293,7 @@ pub early_placed : (command : Option Command) (domain problem engine : List ℕ)
     → IsPlaced command (status_of a)
 early_placed command domain problem engine a stops has = early command a stops.early has
 
-pub outputs_placed : (command : Option Command) (domain problem engine : List ℕ) (a : Answer) → StopsBefore domain problem engine a → HasOutputs command
+pub outputs_placed : (command : Option Command) (domain problem engine : List ℕ) (a : Answer) → StopsBefore domain problem engine a → IsCompile command
     → IsPlaced command (status_of a)
 outputs_placed command domain problem engine a stops has = early command a stops.early (has_engine command has)
 
@@ -291,6 +308,7 @@ refused_compiles words domain problem engine old new (answer.Unread error) stops
 refused_compiles words domain problem engine old new (answer.Judged verdict) stops = tt
 refused_compiles words domain problem engine old new (answer.Unspelled place) stops = tt
 refused_compiles words domain problem engine old new (answer.TooLarge number) stops = tt
+refused_compiles words domain problem engine old new (answer.Converted conversion) stops = tt
 refused_compiles words domain problem engine old new (answer.Stopped s) stops = tt
 
 pub unread_compiles : (words : List (List ℕ)) (domain problem : List ℕ) (old new : Option Files) (a : Answer) → StopsRead domain problem a

@@ -17,7 +17,7 @@ use Rattle.up_top.specs.declared.status.Status.{Status}
 use Rattle.up_top.specs.declared.status.Status.TheVariants.{Done, Usage, Memory, WriteFault, DomainRefused, ProblemRefused, PlanRefused, PlanInvalid, NumberTooLarge}
 use Rattle.up_top.specs.Answers.{status_of}
 use Rattle.up_top.specs.Words.{command_of}
-use Rattle.up_top.specs.Cause.{ReadCause, WriteCause, StopsAt, StopsFirst, AreReadable, IsPlaced, IsRefusal, HasOutputs, HasPlan, inputs_end}
+use Rattle.up_top.specs.Cause.{ReadCause, WriteCause, StopsAt, StopsFirst, AreReadable, IsPlaced, IsRefusal, HasOutputs, HasPlan, IsValidate, inputs_end}
 use Rattle.up_top.specs.Inputs.{IsOnPlan, IsPlanAnswer, Says, StopsPlan, StopsRead}
 use Rattle.up_top.specs.Run.{CompilesAt, HasPlace, Leaves}
 use Rattle.up_top.specs.Says.{IsOf}
@@ -33,6 +33,7 @@ read_answers domain problem (answer.Unread error) stops = absurd stops
 read_answers domain problem (answer.Judged verdict) stops = absurd stops
 read_answers domain problem (answer.Unspelled place) stops = absurd stops
 read_answers domain problem (answer.TooLarge number) stops = absurd stops
+read_answers domain problem (answer.Converted conversion) stops = absurd stops
 read_answers domain problem (answer.Stopped stop.Usage) stops = absurd stops
 read_answers domain problem (answer.Stopped stop.Memory) stops = tt
 read_answers domain problem (answer.Stopped (stop.Missing at)) stops = absurd stops
@@ -50,6 +51,7 @@ read_says domain problem third (answer.Unread error) stops = absurd stops
 read_says domain problem third (answer.Judged verdict) stops = absurd stops
 read_says domain problem third (answer.Unspelled place) stops = absurd stops
 read_says domain problem third (answer.TooLarge number) stops = absurd stops
+read_says domain problem third (answer.Converted conversion) stops = absurd stops
 read_says domain problem third (answer.Stopped stop.Usage) stops = absurd stops
 read_says domain problem third (answer.Stopped stop.Memory) stops = tt
 read_says domain problem third (answer.Stopped (stop.Missing at)) stops = absurd stops
@@ -67,6 +69,7 @@ plan_answers text (answer.Unread error) stops = absurd stops
 plan_answers text (answer.Judged verdict) stops = absurd stops
 plan_answers text (answer.Unspelled place) stops = tt
 plan_answers text (answer.TooLarge number) stops = absurd stops
+plan_answers text (answer.Converted conversion) stops = absurd stops
 plan_answers text (answer.Stopped stop.Usage) stops = absurd stops
 plan_answers text (answer.Stopped stop.Memory) stops = tt
 plan_answers text (answer.Stopped (stop.Missing at)) stops = absurd stops
@@ -84,6 +87,7 @@ plan_says domain problem text (answer.Unread error) forms stops = absurd stops
 plan_says domain problem text (answer.Judged verdict) forms stops = absurd stops
 plan_says domain problem text (answer.Unspelled place) forms stops = record { forms = forms; faulty = stops }
 plan_says domain problem text (answer.TooLarge number) forms stops = absurd stops
+plan_says domain problem text (answer.Converted conversion) forms stops = absurd stops
 plan_says domain problem text (answer.Stopped stop.Usage) forms stops = absurd stops
 plan_says domain problem text (answer.Stopped stop.Memory) forms stops = tt
 plan_says domain problem text (answer.Stopped (stop.Missing at)) forms stops = absurd stops
@@ -101,6 +105,7 @@ judged_answers parts plan (answer.Unread error) on = absurd on
 judged_answers parts plan (answer.Judged verdict) on = tt
 judged_answers parts plan (answer.Unspelled place) on = absurd on
 judged_answers parts plan (answer.TooLarge number) on = tt
+judged_answers parts plan (answer.Converted conversion) on = absurd on
 judged_answers parts plan (answer.Stopped stop.Usage) on = absurd on
 judged_answers parts plan (answer.Stopped stop.Memory) on = tt
 judged_answers parts plan (answer.Stopped (stop.Missing at)) on = absurd on
@@ -119,6 +124,7 @@ judged_says domain problem text parts plan (answer.Unread error) forms spelled o
 judged_says domain problem text parts plan (answer.Judged verdict) forms spelled on = record { forms = forms; parts = parts; plan = plan; spelled = spelled; holds = on }
 judged_says domain problem text parts plan (answer.Unspelled place) forms spelled on = absurd on
 judged_says domain problem text parts plan (answer.TooLarge number) forms spelled on = record { forms = forms; parts = parts; plan = plan; spelled = spelled; holds = on }
+judged_says domain problem text parts plan (answer.Converted conversion) forms spelled on = absurd on
 judged_says domain problem text parts plan (answer.Stopped stop.Usage) forms spelled on = absurd on
 judged_says domain problem text parts plan (answer.Stopped stop.Memory) forms spelled on = tt
 judged_says domain problem text parts plan (answer.Stopped (stop.Missing at)) forms spelled on = absurd on
@@ -129,7 +135,7 @@ judged_says domain problem text parts plan (answer.Stopped (stop.InputTooLarge a
 
 pub ruleset on_plan = (read_answers, read_says, plan_answers, plan_says, judged_answers, judged_says)
 
-pub judged_of : (command : Option Command) (a : Answer) → IsPlanAnswer a → HasPlan command → IsOf command a
+pub judged_of : (command : Option Command) (a : Answer) → IsPlanAnswer a → IsValidate command → IsOf command a
 judged_of command (answer.Features kind) is plan = absurd is
 judged_of command (answer.Chain chain) is plan = absurd is
 judged_of command (answer.Actions count) is plan = absurd is
@@ -138,6 +144,7 @@ judged_of command (answer.Unread error) is plan = absurd is
 judged_of command (answer.Judged verdict) is plan = plan
 judged_of command (answer.Unspelled place) is plan = plan
 judged_of command (answer.TooLarge number) is plan = plan
+judged_of command (answer.Converted conversion) is plan = absurd is
 judged_of command (answer.Stopped stop.Usage) is plan = absurd is
 judged_of command (answer.Stopped stop.Memory) is plan = tt
 judged_of command (answer.Stopped (stop.Missing at)) is plan = absurd is
@@ -155,6 +162,7 @@ judged_compiles words old new (answer.Unread error) is = absurd is
 judged_compiles words old new (answer.Judged verdict) is = tt
 judged_compiles words old new (answer.Unspelled place) is = tt
 judged_compiles words old new (answer.TooLarge number) is = tt
+judged_compiles words old new (answer.Converted conversion) is = absurd is
 judged_compiles words old new (answer.Stopped stop.Usage) is = absurd is
 judged_compiles words old new (answer.Stopped stop.Memory) is = tt
 judged_compiles words old new (answer.Stopped (stop.Missing at)) is = absurd is
@@ -163,7 +171,15 @@ judged_compiles words old new (answer.Stopped (stop.WriteFault at)) is = absurd 
 judged_compiles words old new (answer.Stopped stop.NoPipeline) is = absurd is
 judged_compiles words old new (answer.Stopped (stop.InputTooLarge at)) is = absurd is
 
-pub judged_placed : (command : Option Command) (a : Answer) → IsPlanAnswer a → HasPlan command → IsPlaced command (status_of a)
+reads_plan : (command : Option Command) → IsValidate command → HasPlan command
+reads_plan None plan = plan
+reads_plan (Some command.Kind) plan = plan
+reads_plan (Some command.Pipeline) plan = plan
+reads_plan (Some (command.Compile limit)) plan = plan
+reads_plan (Some command.Validate) plan = tt
+reads_plan (Some command.Back) plan = tt
+
+pub judged_placed : (command : Option Command) (a : Answer) → IsPlanAnswer a → IsValidate command → IsPlaced command (status_of a)
 judged_placed command (answer.Features kind) is plan = absurd is
 judged_placed command (answer.Chain chain) is plan = absurd is
 judged_placed command (answer.Actions count) is plan = absurd is
@@ -171,11 +187,12 @@ judged_placed command (answer.Refused file.Domain place reason name) is plan = t
 judged_placed command (answer.Refused file.Problem place reason name) is plan = tt
 judged_placed command (answer.Unread error) is plan = absurd is
 judged_placed command (answer.Judged (verdict.Valid metric)) is plan = tt
-judged_placed command (answer.Judged (verdict.BadStep number reason)) is plan = plan
-judged_placed command (answer.Judged verdict.GoalOpen) is plan = plan
-judged_placed command (answer.Judged (verdict.Broken number)) is plan = plan
-judged_placed command (answer.Unspelled place) is plan = plan
-judged_placed command (answer.TooLarge number) is plan = plan
+judged_placed command (answer.Judged (verdict.BadStep number reason)) is plan = reads_plan command plan
+judged_placed command (answer.Judged verdict.GoalOpen) is plan = reads_plan command plan
+judged_placed command (answer.Judged (verdict.Broken number)) is plan = reads_plan command plan
+judged_placed command (answer.Unspelled place) is plan = reads_plan command plan
+judged_placed command (answer.TooLarge number) is plan = reads_plan command plan
+judged_placed command (answer.Converted conversion) is plan = absurd is
 judged_placed command (answer.Stopped stop.Usage) is plan = absurd is
 judged_placed command (answer.Stopped stop.Memory) is plan = tt
 judged_placed command (answer.Stopped (stop.Missing at)) is plan = absurd is
@@ -198,6 +215,7 @@ by_status Holds (answer.Judged verdict.GoalOpen) is done refused = refused PlanI
 by_status Holds (answer.Judged (verdict.Broken number)) is done refused = refused PlanInvalid tt
 by_status Holds (answer.Unspelled place) is done refused = refused PlanRefused tt
 by_status Holds (answer.TooLarge number) is done refused = refused NumberTooLarge tt
+by_status Holds (answer.Converted conversion) is done refused = absurd is
 by_status Holds (answer.Stopped stop.Usage) is done refused = absurd is
 by_status Holds (answer.Stopped stop.Memory) is done refused = refused Memory tt
 by_status Holds (answer.Stopped (stop.Missing at)) is done refused = absurd is
@@ -206,12 +224,13 @@ by_status Holds (answer.Stopped (stop.WriteFault at)) is done refused = absurd i
 by_status Holds (answer.Stopped stop.NoPipeline) is done refused = absurd is
 by_status Holds (answer.Stopped (stop.InputTooLarge at)) is done refused = absurd is
 
-no_outputs : (command : Option Command) → HasPlan command → ¬ HasOutputs command
+no_outputs : (command : Option Command) → IsValidate command → ¬ HasOutputs command
 no_outputs None plan = λ has. has
 no_outputs (Some command.Kind) plan = λ has. has
 no_outputs (Some command.Pipeline) plan = λ has. has
 no_outputs (Some (command.Compile limit)) plan = absurd plan
 no_outputs (Some command.Validate) plan = λ has. has
+no_outputs (Some command.Back) plan = absurd plan
 
 done_told : (words : List (List ℕ)) (held : Option Files) → IfSome held (StopsAt words Done)
 done_told words None = tt
@@ -226,7 +245,7 @@ judged_fit a is = by_status (λ status. ¬ (status ≡ Usage)) a is (λ same. cc
 pub judged_put : (a : Answer) → IsPlanAnswer a → ¬ (status_of a ≡ WriteFault None)
 judged_put a is = by_status (λ status. ¬ (status ≡ WriteFault None)) a is (λ same. cc) refusal_put
 
-pub judged_held : (words : List (List ℕ)) (old new : Option Files) (a : Answer) → IsPlanAnswer a → HasPlan (command_of words) → new ≡ old
+pub judged_held : (words : List (List ℕ)) (old new : Option Files) (a : Answer) → IsPlanAnswer a → IsValidate (command_of words) → new ≡ old
     → Leaves words old new (status_of a)
 judged_held words old new a is plan same =
     by_status (Leaves words old new) a is (Leaves.untouched (no_outputs (command_of words) plan) same) (λ status kind. refusal_held words old new status kind same)

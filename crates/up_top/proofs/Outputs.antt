@@ -12,7 +12,7 @@ use Rattle.up_map.specs.declared.map.Map.{Map}
 use Rattle.up_map.specs.Texts.{map_text}
 use Rattle.pddl_write.specs.Files.{domain_text, problem_text}
 use Rattle.up_top.specs.Run.{Output, SomeWritten, HeldAfter, Leaves, IsWhole, Compiles, outputs_of, held_after, write_status}
-use Rattle.up_top.specs.Cause.{IsWriteStatus, HasOutputs, IsHeld}
+use Rattle.up_top.specs.Cause.{IsWriteStatus, IsCompile, IsHeld}
 use Rattle.up_top.specs.Answers.{stop_status}
 
 none_written : (words : List (List ℕ)) (outputs : List Output) (old new : Option Files) → new ≡ old → SomeWritten words outputs old new
@@ -66,7 +66,7 @@ goes_on words output outputs old mid new NumberTooLarge first last done held kin
 
 -- what comes of the writes of a problem and its map
 pub wrote : (words : List (List ℕ)) (old new : Option Files) (status : Status) (problem : Parts) (map : Map) (domain_bytes problem_bytes map_bytes : List ℕ)
-    → HasOutputs (command_of words) → (engine : List ℕ) → IfSome old (IsHeld words 3 engine) → IsWhole engine problem map
+    → IsCompile (command_of words) → (engine : List ℕ) → IfSome old (IsHeld words 3 engine) → IsWhole engine problem map
     → domain_bytes ≡ domain_text problem → problem_bytes ≡ problem_text problem → map_bytes ≡ map_text map
     → HeldAfter words (outputs_of domain_bytes problem_bytes map_bytes) old new status
     → Leaves words old new status

@@ -3,8 +3,12 @@
 
 mod answer;
 mod ask;
+mod back;
+#[cfg(test)]
+mod back_tests;
 mod command;
 mod compile;
+mod converted;
 mod judge;
 mod limit;
 mod lists;
