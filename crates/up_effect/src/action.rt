@@ -1,3 +1,9 @@
+ghost use Rattle.std.specs.Prelude.{◌≡◌, [], Some, IfOk, IfErr};
+ghost use Rattle.pddl_lex.specs.Verdicts.{fine, first};
+ghost use Rattle.up_phrase.specs.Declarations.{declarations};
+ghost use Rattle.up_phrase.specs.Scopes.{variables, barred, entered_groups};
+ghost use Rattle.up_effect.specs.Actions.{with_parameters, with_precondition, with_effect, action_of, action};
+
 use crate::effect::checked_rows;
 use pddl_parse::{RawAction, RawGroup};
 use std::alloc::Global;
@@ -5,51 +11,77 @@ use up_phrase::{Binder, Fault, Names, Scope, Setting, boxed_formula};
 use up_text::{Box, List, Memory, Name};
 use up_tree::{Action, Formula, Row, Typed};
 
-fn with_parameters(alloc: Global, names: &Names, groups: &[RawGroup]) -> Result<Scope, Fault> {
+fn parameters(alloc: Global, names: &Names, groups: &[RawGroup]) -> Result<Scope, Fault>
+    ensures ok { IfOk result (λ scope. entered_groups (declarations names.now) [] groups.now [] ≡ fine (variables scope)) }
+    ensures err { IfErr result (λ fault. ¬ (fault ≡ Fault.Memory) → first (entered_groups (declarations names.now) [] groups.now []) ≡ Some fault) }
+    ensures barred { IfOk result (λ scope. barred scope ≡ []) }
+{
     let mut scope = Scope::new(alloc);
     scope.enter(alloc, names, Binder::Plain, groups)?;
     Ok(scope)
 }
 
 /// An action, whose own name isn't looked at: parameters, then precondition, then effect.
-pub fn checked_action(alloc: Global, names: &Names, raw: &RawAction) -> Result<Action, Fault> {
-    let scope = with_parameters(alloc, names, raw.params.as_slice())?;
-    with_precondition(alloc, names, scope, raw)
+///
+/// A row of the effect comes of each simple effect in it. The row's variables are those of the `forall`s around the simple effect, from
+/// the outside in, and its condition is the `and` of the conditions of the `when`s around it that aren't the empty `and`, or the only
+/// such condition itself. Faults come from left to right and from the outside in: those of conditions, terms and typed lists, `Duplicate`
+/// at a variable of a `forall` that is in scope or that the condition of a `when` around it binds, and `TypeMismatch` at the word
+/// `undefined` after the faults of a target that is a number.
+#[tactic(auto, using(up_phrase::proofs::Steps::steps))]
+pub fn checked_action(alloc: Global, names: &Names, raw: &RawAction) -> Result<Action, Fault>
+    ensures ok { IfOk result (λ made. action (declarations names.now) raw.now ≡ fine made) }
+    ensures err { IfErr result (λ fault. ¬ (fault ≡ Fault.Memory) → first (action (declarations names.now) raw.now) ≡ Some fault) }
+{
+    let scope = parameters(alloc, names, raw.params.as_slice())?;
+    with_parameters(alloc, names, scope, raw)
 }
 
-fn with_precondition(
+#[tactic(auto, using(up_phrase::proofs::Steps::steps))]
+fn with_parameters(
     alloc: Global,
     names: &Names,
     mut scope: Scope,
     raw: &RawAction,
-) -> Result<Action, Fault> {
+) -> Result<Action, Fault>
+    ensures ok { IfOk result (λ made. with_parameters (declarations names.now) raw.now (barred scope) (variables scope) ≡ fine made) }
+    ensures err { IfErr result (λ fault. ¬ (fault ≡ Fault.Memory) → first (with_parameters (declarations names.now) raw.now (barred scope) (variables scope)) ≡ Some fault) }
+{
     match boxed_formula(alloc, names, &mut scope, Setting::Plain, &raw.pre) {
-        Ok(pre) => with_effect(alloc, names, scope, pre, raw),
+        Ok(pre) => with_precondition(alloc, names, scope, pre, raw),
         Err(fault) => Err(fault),
     }
 }
 
-fn with_effect(
+#[tactic(auto, using(up_phrase::proofs::Steps::steps))]
+fn with_precondition(
     alloc: Global,
     names: &Names,
     scope: Scope,
     pre: Box<Formula>,
     raw: &RawAction,
-) -> Result<Action, Fault> {
+) -> Result<Action, Fault>
+    ensures ok { IfOk result (λ made. with_precondition (declarations names.now) raw.now (barred scope) (variables scope) pre ≡ fine made) }
+    ensures err { IfErr result (λ fault. ¬ (fault ≡ Fault.Memory) → first (with_precondition (declarations names.now) raw.now (barred scope) (variables scope) pre) ≡ Some fault) }
+{
     match scope.since(alloc, 0) {
-        Ok(params) => with_rows(alloc, names, scope, pre, params, raw),
+        Ok(params) => with_effect(alloc, names, scope, pre, params, raw),
         Err(Memory) => Err(Fault::Memory),
     }
 }
 
-fn with_rows(
+#[tactic(auto, using(up_phrase::proofs::Steps::steps))]
+fn with_effect(
     alloc: Global,
     names: &Names,
     scope: Scope,
     pre: Box<Formula>,
     params: List<Typed>,
     raw: &RawAction,
-) -> Result<Action, Fault> {
+) -> Result<Action, Fault>
+    ensures ok { IfOk result (λ made. with_effect (declarations names.now) raw.now (barred scope) (variables scope) pre params ≡ fine made) }
+    ensures err { IfErr result (λ fault. ¬ (fault ≡ Fault.Memory) → first (with_effect (declarations names.now) raw.now (barred scope) (variables scope) pre params) ≡ Some fault) }
+{
     match checked_rows(alloc, names, scope, &raw.effect) {
         Ok(rows) => with_name(alloc, &raw.name.name, params, pre, rows),
         Err(fault) => Err(fault),
@@ -62,7 +94,10 @@ fn with_name(
     params: List<Typed>,
     pre: Box<Formula>,
     rows: List<Row>,
-) -> Result<Action, Fault> {
+) -> Result<Action, Fault>
+    ensures ok { IfOk result (λ made. made ≡ action_of name.now params pre rows) }
+    ensures err { IfErr result (λ fault. fault ≡ Fault.Memory) }
+{
     match name.copy(alloc) {
         Ok(name) => Ok(Action {
             name,

@@ -1,0 +1,3 @@
+pub mod EffectNodes
+pub mod Gathering
+pub mod Walking

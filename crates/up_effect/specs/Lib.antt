@@ -1,0 +1,4 @@
+pub mod Nodes
+pub mod Effects
+pub mod Walk
+pub mod Actions
