@@ -4,7 +4,7 @@ pub mod Scopes
 pub mod Grounds
 pub mod Numbers
 pub mod Conditions
-pub mod Metrics
+pub mod Compared
 pub mod Fitting
 pub mod Fired
 pub mod Steps

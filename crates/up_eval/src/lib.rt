@@ -11,7 +11,6 @@ mod ground;
 mod metric;
 mod next;
 mod number;
-mod plain;
 mod scope;
 mod state;
 mod step;
@@ -19,6 +18,7 @@ mod step_error;
 mod stop;
 mod table;
 mod truth;
+mod unassigned;
 mod value;
 
 pub use error::{TooLarge, TruthError};

@@ -1,5 +1,8 @@
 ghost use Rattle.std.specs.Prelude.{◌≡◌, IfOk, OnErr};
-ghost use Rattle.up_eval.specs.Metrics.{IsMetricValue, MetricIsBig, IsPlainNumber, PlainIsBig, of_number};
+ghost use Rattle.up_eval.specs.Metrics.{metric_value, MetricIsBig, of_number};
+ghost use Rattle.up_tree.specs.Objects.{unassigned};
+ghost use Rattle.up_tree.specs.Value.{number};
+ghost use Rattle.up_tree.specs.Big.{BigExpr};
 
 use crate::error::TooLarge;
 use crate::number::{difference_of, product_of, quotient_of, sum_of};
@@ -30,51 +33,50 @@ impl State {
     /// What the problem's metric is in the state. It takes no memory.
     ///
     /// `TooLarge` comes only where the metric or a part of it has a value with a numerator or denominator of at least 2^62 in size.
-    /// An argument of the metric's terms is an object, as in each well-formed problem: object functions have no place there.
     pub fn metric(&self, p: &Problem) -> Result<Value, TooLarge>
-        ensures value { IfOk result (IsMetricValue self.now p.now.metric) }
+        ensures value { IfOk result (λ value. value ≡ metric_value self.now p.now.metric) }
         ensures too_large { OnErr result (MetricIsBig self.now p.now.metric) }
     {
         self.metric_value(&p.parts().metric)
     }
 
-    #[tactic(auto, using(crate::proofs::Metrics::metrics))]
     fn metric_value(&self, metric: &Option<Metric>) -> Result<Value, TooLarge>
-        ensures value { IfOk result (IsMetricValue self.now metric.now) }
+        ensures value { IfOk result (λ value. value ≡ metric_value self.now metric.now) }
         ensures too_large { OnErr result (MetricIsBig self.now metric.now) }
     {
         match metric {
             None => Ok(Value::None),
-            Some(metric) => Ok(of_number(self.plain_number(&metric.value)?)),
+            Some(metric) => Ok(of_number(self.unassigned_number(&metric.value)?)),
         }
     }
 
-    // The number that an expression stands for whose terms have objects as arguments.
-    fn plain_number(&self, expr: &Expr) -> Result<Option<Frac>, TooLarge>
-        ensures value { IfOk result (IsPlainNumber self.now expr.now) }
-        ensures too_large { OnErr result (PlainIsBig self.now expr.now) }
+    // The number that an expression stands for where no variable has an object, if it is defined.
+    #[tactic(auto, using(crate::proofs::Numbers::numbers))]
+    fn unassigned_number(&self, expr: &Expr) -> Result<Option<Frac>, TooLarge>
+        ensures value { IfOk result (λ n. n ≡ number self.now unassigned expr.now) }
+        ensures too_large { OnErr result (BigExpr self.now unassigned expr.now) }
     {
         match expr {
             Expr::Number(n) => Ok(Some(*n)),
-            Expr::Fluent(name, args) => Ok(self.plain_number_at(name, args.as_slice())),
+            Expr::Fluent(name, args) => Ok(self.unassigned_fluent(name, args.as_slice())),
             Expr::Sum(a, b) => {
-                let left = self.plain_number(a.get())?;
-                let right = self.plain_number(b.get())?;
+                let left = self.unassigned_number(a.get())?;
+                let right = self.unassigned_number(b.get())?;
                 Ok(sum_of(left, right)?)
             }
             Expr::Difference(a, b) => {
-                let left = self.plain_number(a.get())?;
-                let right = self.plain_number(b.get())?;
+                let left = self.unassigned_number(a.get())?;
+                let right = self.unassigned_number(b.get())?;
                 Ok(difference_of(left, right)?)
             }
             Expr::Product(a, b) => {
-                let left = self.plain_number(a.get())?;
-                let right = self.plain_number(b.get())?;
+                let left = self.unassigned_number(a.get())?;
+                let right = self.unassigned_number(b.get())?;
                 Ok(product_of(left, right)?)
             }
             Expr::Quotient(a, b) => {
-                let left = self.plain_number(a.get())?;
-                let right = self.plain_number(b.get())?;
+                let left = self.unassigned_number(a.get())?;
+                let right = self.unassigned_number(b.get())?;
                 Ok(quotient_of(left, right)?)
             }
         }

@@ -3,7 +3,6 @@ ghost use Rattle.std.specs.Option.{option_copied};
 ghost use Rattle.std.specs.FinSet as set;
 ghost use Rattle.up_tree.specs.State.{init, number_at, object_at};
 ghost use Rattle.up_eval.specs.Initial.{ground_atoms, number_entries, value_entries, IsOfWellFormed};
-ghost use Rattle.up_eval.specs.Metrics.{IsPlainFluent};
 ghost use Rattle.up_eval.specs.Nexts.{state_with};
 ghost use Rattle.std.specs.FinMap as table;
 
@@ -11,10 +10,11 @@ use crate::ground::Ground;
 use crate::next::Changes;
 use crate::table::{Atoms, Table};
 use std::alloc::Global;
+use std::collections::BTreeMap;
 use std::marker::Model;
 use up_frac::Frac;
 use up_text::{List, Memory, Name};
-use up_tree::{Fact, NumberFact, Parts, Problem, Term, ValueFact};
+use up_tree::{Fact, NumberFact, Parts, Problem, ValueFact};
 
 /// Which ground atoms are true, and the numbers and objects of the ground terms that have a value. It keeps an allocator.
 #[derive(Drop)]
@@ -58,11 +58,16 @@ impl State {
         self.numbers.get(term).copied()
     }
 
-    /// The number of a term whose arguments are objects. It takes no memory.
-    pub(crate) fn plain_number_at(&self, name: &Name, args: &[Term]) -> Option<Frac>
-        ensures { IsPlainFluent self.now name.now args.now result }
+    pub(crate) fn numbers(&self) -> &BTreeMap<Ground, Frac>
+        ensures { table.from_entries result.now.entries ≡ self.now.numbers }
     {
-        self.numbers.plainly_at(name, args)
+        self.numbers.entries()
+    }
+
+    pub(crate) fn values(&self) -> &BTreeMap<Ground, Name>
+        ensures { table.from_entries result.now.entries ≡ self.now.values }
+    {
+        self.values.entries()
     }
 
     pub(crate) fn object_at(&self, term: &Ground) -> Option<&Name>

@@ -3,20 +3,17 @@ ghost use Rattle.std.specs.Option.{option_copied};
 ghost use Rattle.std.specs.FinSet as set;
 ghost use Rattle.std.specs.FinMap as table;
 ghost use Rattle.up_tree.specs.Changes.{put};
-ghost use Rattle.up_eval.specs.Metrics.{IsPlainlyAt};
 ghost use Rattle.up_eval.specs.Gathering.{put_numbers, put_objects};
 
 use crate::changes::ObjectChange;
 use crate::copies::{atoms_copy, numbers_copy, values_copy};
 use crate::gathering::{NewNumber, value_copy};
 use crate::ground::Ground;
-use crate::plain::plain_entry;
 use std::alloc::Global;
 use std::collections::{BTreeMap, BTreeSet};
 use std::marker::Model;
 use up_frac::Frac;
 use up_text::{List, Memory, Name};
-use up_tree::Term;
 
 /// A set of ground atoms.
 #[derive(Drop)]
@@ -128,6 +125,12 @@ impl<V> Table<V> {
     {
         self.entries.get(term)
     }
+
+    pub(crate) fn entries(&self) -> &BTreeMap<Ground, V>
+        ensures { table.from_entries result.now.entries ≡ self.now }
+    {
+        &self.entries
+    }
 }
 
 impl<V: Drop> Table<V> {
@@ -176,13 +179,6 @@ impl Table<Frac> {
             all.put(new.target.copy(alloc)?, new.value)?;
         }
         Ok(all)
-    }
-
-    /// The number at a name before the objects that the terms name. It takes no memory.
-    pub(crate) fn plainly_at(&self, name: &Name, terms: &[Term]) -> Option<Frac>
-        ensures { IsPlainlyAt self.now name.now terms.now result }
-    {
-        plain_entry(&self.entries, name, terms)
     }
 }
 

@@ -18,7 +18,7 @@ use Rattle.up_tree.specs.Big.{BigFormula, IsBigGoal}
 use Rattle.up_tree.proofs.Apart.{apart}
 use Rattle.up_eval.specs.declared.metric.Value.{Value}
 use Rattle.up_eval.specs.declared.metric.Value.TheVariants as value
-use Rattle.up_eval.specs.Metrics.{IsPlainMetric, IsMetricValue, MetricIsBig, metric_value, of_number}
+use Rattle.up_eval.specs.Metrics.{MetricIsBig, metric_value, of_number}
 use Rattle.up_validate.specs.declared.run.Run.{Run}
 use Rattle.up_validate.specs.declared.run.Halt.{Halt}
 use Rattle.up_validate.specs.declared.run.Halt.TheVariants as halt
@@ -85,13 +85,13 @@ module _ (p : Parts) (plan : Plan) where
         broken = first_broken p (stands.before ++ at.state ∷ []) k (is ∙ ap (first_unkept 1) stands.phases);
       }
 
-      pub valid : None ≡ first_unkept 1 at.phases → (v : Value) → IsMetricValue at.state p.metric v → IsVerdict p plan (verdict.Valid v)
+      pub valid : None ≡ first_unkept 1 at.phases → (v : Value) → v ≡ metric_value at.state p.metric → IsVerdict p plan (verdict.Valid v)
       valid is v measured = record {
         valid = (stands.before ++ at.state ∷ [], stands.runs, reaches, all_kept p (stands.before ++ at.state ∷ []) (is ∙ ap (first_unkept 1) stands.phases));
-        measured = λ plain. (
+        measured = (
           stands.before ++ at.state ∷ [],
           stands.runs,
-          of_last (λ s. meant v ≡ metric_at p s) stands.before at.state (ap meant (measured plain) ∙ meant_metric at.state p.metric),
+          of_last (λ s. meant v ≡ metric_at p s) stands.before at.state (ap meant measured ∙ meant_metric at.state p.metric),
         );
       }
         where

@@ -15,7 +15,7 @@ use Rattle.up_tree.specs.Plans.{RunsFrom, IsRun, OfLast, ReachesGoal, Keeps, Pla
 use Rattle.up_tree.specs.Big.{BigFormula, IsBigStep, IsBigGoal}
 use Rattle.up_eval.specs.declared.metric.Value.{Value}
 use Rattle.up_eval.specs.declared.metric.Value.TheVariants as value
-use Rattle.up_eval.specs.Metrics.{IsPlainMetric, MetricIsBig}
+use Rattle.up_eval.specs.Metrics.{MetricIsBig}
 use Rattle.up_eval.specs.Steps.{fault_of}
 use Rattle.up_validate.specs.declared.verdict.StepFault.{StepFault}
 use Rattle.up_validate.specs.declared.verdict.StepFault.TheVariants as why
@@ -52,10 +52,10 @@ meant value.None = None
 meant value.Undefined = Some None
 meant (value.Number n) = Some (Some n)
 
--- a plan that is valid, with its metric, whose arguments are objects in each well-formed problem
+-- a plan that is valid, with its metric
 pub record IsValid (p : Parts) (plan : Plan) (metric : Value) : Type 0 where
   pub valid : Plans p plan
-  pub measured : IsPlainMetric p.metric → MetricOf p plan (meant metric)
+  pub measured : MetricOf p plan (meant metric)
 
 -- each step can be taken, and the goal isn't true in the end
 pub record LeavesGoal (p : Parts) (plan : Plan) : Type 0 where
