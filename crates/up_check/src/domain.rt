@@ -1,5 +1,11 @@
+ghost use Rattle.std.specs.Prelude.{◌≡◌, ◌∷◌, [], Some, IfOk, IfErr, OnOk, not};
+ghost use Rattle.up_text.specs.Fresh.{is_among, with_name};
+ghost use Rattle.pddl_lex.specs.Verdicts.{fine, first};
+ghost use Rattle.up_phrase.specs.Declarations.{declarations};
+ghost use Rattle.up_check.specs.Domains.{actions, declared, domain_names, known, known_of, second};
+
 use crate::constraint::push_constraints;
-use pddl_parse::{DomainForm, RawAction};
+use pddl_parse::{DomainForm, Ident, RawAction};
 use std::alloc::Global;
 use up_declare::{declare_functions, declare_objects, declare_predicates, declared_types};
 use up_effect::checked_action;
@@ -18,8 +24,37 @@ pub struct Domain {
 }
 
 /// The domain of a form, by its sections in the order types, constants, predicates, functions, actions, constraints.
-pub fn checked_domain(alloc: Global, form: &DomainForm) -> Result<Domain, Fault> {
-    let names = declared_names(alloc, form)?;
+#[tactic(auto, using(up_phrase::proofs::Steps::steps))]
+pub fn checked_domain(alloc: Global, form: &DomainForm) -> Result<Domain, Fault>
+    ensures ok { IfOk result (λ made. domain_names form.now ≡ fine (known_of made)) }
+    ensures err { IfErr result (λ fault. ¬ (fault ≡ Fault.Memory) → first (domain_names form.now) ≡ Some fault) }
+{
+    match declared_names(alloc, form) {
+        Ok(names) => in_names(alloc, form, names),
+        Err(fault) => Err(fault),
+    }
+}
+
+// Types, then constants, then predicates, then functions.
+#[tactic(auto, using(crate::proofs::Declaring::declaring, up_phrase::proofs::Steps::steps))]
+fn declared_names(alloc: Global, form: &DomainForm) -> Result<Names, Fault>
+    ensures ok { IfOk result (λ names. declared form.now ≡ fine (declarations names)) }
+    ensures err { IfErr result (λ fault. ¬ (fault ≡ Fault.Memory) → first (declared form.now) ≡ Some fault) }
+{
+    let types = declared_types(alloc, form.types.as_slice())?;
+    let mut names = Names::new(alloc, types);
+    declare_objects(alloc, &mut names, form.constants.as_slice())?;
+    declare_predicates(alloc, &mut names, form.predicates.as_slice())?;
+    declare_functions(alloc, &mut names, form.functions.as_slice())?;
+    Ok(names)
+}
+
+// Actions, then constraints.
+#[tactic(auto, using(up_phrase::proofs::Steps::steps))]
+fn in_names(alloc: Global, form: &DomainForm, names: Names) -> Result<Domain, Fault>
+    ensures ok { IfOk result (λ made. known form.now (declarations names) ≡ fine (known_of made)) }
+    ensures err { IfErr result (λ fault. ¬ (fault ≡ Fault.Memory) → first (known form.now (declarations names)) ≡ Some fault) }
+{
     let actions = checked_actions(alloc, &names, form.actions.as_slice())?;
     let constraints = push_constraints(alloc, &names, &form.constraints, List::new(alloc))?;
     let name = form.name.name.copy(alloc)?;
@@ -31,38 +66,36 @@ pub fn checked_domain(alloc: Global, form: &DomainForm) -> Result<Domain, Fault>
     })
 }
 
-fn declared_names(alloc: Global, form: &DomainForm) -> Result<Names, Fault> {
-    let types = declared_types(alloc, form.types.as_slice())?;
-    let mut names = Names::new(alloc, types);
-    declare_objects(alloc, &mut names, form.constants.as_slice())?;
-    declare_predicates(alloc, &mut names, form.predicates.as_slice())?;
-    declare_functions(alloc, &mut names, form.functions.as_slice())?;
-    Ok(names)
-}
-
-fn checked_actions(
-    alloc: Global,
-    names: &Names,
-    raws: &[RawAction],
-) -> Result<List<Action>, Fault> {
+#[tactic(auto, using(crate::proofs::Declaring::declaring, up_phrase::proofs::Steps::steps))]
+fn checked_actions(alloc: Global, names: &Names, raws: &[RawAction]) -> Result<List<Action>, Fault>
+    ensures ok { IfOk result (λ made. actions (declarations names.now) [] raws.now ≡ fine made) }
+    ensures err { IfErr result (λ fault. ¬ (fault ≡ Fault.Memory) → first (actions (declarations names.now) [] raws.now) ≡ Some fault) }
+{
     let mut declared = NameSet::new(alloc);
     let mut actions = List::new(alloc);
     for raw in raws {
-        declare_action(alloc, raw, &mut declared)?;
+        declare_action(alloc, &raw.name, &mut declared)?;
         actions.push(checked_action(alloc, names, raw)?)?;
     }
     Ok(actions)
 }
 
-// Answers `Duplicate` at an action's name that is declared.
-fn declare_action(alloc: Global, raw: &RawAction, declared: &mut NameSet) -> Result<(), Fault> {
-    if is_added(alloc, &raw.name.name, declared)? {
+// Answers `Duplicate` at a name that is declared.
+fn declare_action(alloc: Global, it: &Ident, declared: &mut NameSet) -> Result<(), Fault>
+    ensures ok { OnOk result (second declared.old it.now ≡ []) }
+    ensures added { OnOk result (declared.new ≡ with_name declared.old it.now.name) }
+    ensures err { IfErr result (λ fault. ¬ (fault ≡ Fault.Memory) → second declared.old it.now ≡ fault ∷ []) }
+{
+    if is_added(alloc, &it.name, declared)? {
         Ok(())
     } else {
-        Err(named(alloc, raw.name.place, Reason::Duplicate, &raw.name.name))
+        Err(named(alloc, it.place, Reason::Duplicate, &it.name))
     }
 }
 
-fn is_added(alloc: Global, name: &Name, names: &mut NameSet) -> Result<bool, Memory> {
+fn is_added(alloc: Global, name: &Name, names: &mut NameSet) -> Result<bool, Memory>
+    ensures names { OnOk result (names.new ≡ with_name names.old name.now) }
+    ensures added { IfOk result (λ added. added ≡ not (is_among names.old name.now)) }
+{
     names.add(name.copy(alloc)?)
 }

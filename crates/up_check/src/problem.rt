@@ -1,58 +1,45 @@
+ghost use Rattle.std.specs.Prelude.{◌≡◌, ◌∷◌, [], Some, IfOk, IfErr};
+ghost use Rattle.pddl_lex.specs.Verdicts.{fine, first};
+ghost use Rattle.up_phrase.specs.Conditions.{formula};
+ghost use Rattle.up_phrase.specs.Declarations.{declarations};
+ghost use Rattle.up_declare.specs.Declaring.{with_objects};
+ghost use Rattle.up_check.specs.Domains.{known_of};
+ghost use Rattle.up_check.specs.Metrics.{metric_of};
+ghost use Rattle.up_check.specs.Problems.{composed, in_names, objects_on, parts, problem_names, stated, wrong_domain};
+
 use crate::constraint::push_constraints;
 use crate::domain::Domain;
-use crate::init::{Ground, Init, checked_init};
+use crate::lists::{Declared, Initial, declared_lists, init_of};
 use crate::metric::checked_metric;
-use indexmap::{IndexMap, IndexSet};
-use pddl_parse::{Ident, ProblemForm, RawFormula, RawInit, RawMetric};
+use pddl_parse::{Ident, ProblemForm, RawFormula, RawGroup, RawMetric};
 use std::alloc::Global;
 use up_declare::declare_objects;
-use up_frac::Frac;
-use up_phrase::{Fault, Names, Reason, Signature, checked_goal, named};
+use up_phrase::{Fault, Names, Reason, Setting, checked_goal, named};
 use up_text::{Box, List, Memory, Name};
-use up_tree::{
-    Action, Constraint, Fact, Formula, Function, Metric, NumberFact, Parts, Predicate, Problem,
-    Typed, ValueFact,
-};
+use up_tree::{Action, Constraint, Formula, Metric, Parts, Problem};
 
-// What a problem text adds to what is declared. Boxes keep what is dropped at a fault small.
+/// What a problem text states beside its objects, behind its domain's constraints. Boxes keep what is dropped at a fault small.
 #[derive(Drop)]
-struct Rest {
-    init: InitLists,
-    goal: Box<Formula>,
-    constraints: List<Constraint>,
-    metric: Option<Box<Metric>>,
+pub struct Stated {
+    pub init: Initial,
+    pub goal: Box<Formula>,
+    pub constraints: List<Constraint>,
+    pub metric: Option<Box<Metric>>,
 }
 
-// The initial state as a problem holds it.
+/// The names of a domain and a problem.
 #[derive(Drop)]
-struct InitLists {
-    atoms: List<Fact>,
-    numbers: List<NumberFact>,
-    values: List<ValueFact>,
-}
-
-// What is declared as a problem holds it.
-#[derive(Drop)]
-struct Declared {
-    types: List<Typed>,
-    objects: List<Typed>,
-    predicates: List<Predicate>,
-    functions: List<Function>,
-}
-
-// The names of a domain and a problem.
-#[derive(Drop)]
-struct Titles {
-    domain: Name,
-    problem: Name,
+pub struct Titles {
+    pub domain: Name,
+    pub problem: Name,
 }
 
 /// The problem of a form, by its sections in the order `:domain`, objects, init, goal, constraints, metric.
-pub fn checked_problem(
-    alloc: Global,
-    domain: Domain,
-    form: &ProblemForm,
-) -> Result<Problem, Fault> {
+#[tactic(auto, using(up_phrase::proofs::Steps::steps))]
+pub fn checked_problem(alloc: Global, domain: Domain, form: &ProblemForm) -> Result<Problem, Fault>
+    ensures ok { IfOk result (λ made. problem_names (known_of domain) form.now ≡ fine made) }
+    ensures err { IfErr result (λ fault. ¬ (fault ≡ Fault.Memory) → first (problem_names (known_of domain) form.now) ≡ Some fault) }
+{
     match check_domain(alloc, &domain.name, &form.domain) {
         Ok(()) => in_domain(alloc, domain, form),
         Err(fault) => Err(fault),
@@ -60,7 +47,10 @@ pub fn checked_problem(
 }
 
 // Answers `WrongDomain` at the name of another domain.
-fn check_domain(alloc: Global, name: &Name, stated: &Ident) -> Result<(), Fault> {
+fn check_domain(alloc: Global, name: &Name, stated: &Ident) -> Result<(), Fault>
+    ensures ok { IfOk result (λ _. wrong_domain name.now stated.now ≡ []) }
+    ensures err { IfErr result (λ fault. ¬ (fault ≡ Fault.Memory) → wrong_domain name.now stated.now ≡ fault ∷ []) }
+{
     if &stated.name == name {
         Ok(())
     } else {
@@ -68,7 +58,12 @@ fn check_domain(alloc: Global, name: &Name, stated: &Ident) -> Result<(), Fault>
     }
 }
 
-fn in_domain(alloc: Global, domain: Domain, form: &ProblemForm) -> Result<Problem, Fault> {
+#[tactic(auto, using(up_phrase::proofs::Steps::steps))]
+fn in_domain(alloc: Global, domain: Domain, form: &ProblemForm) -> Result<Problem, Fault>
+    ensures ok { IfOk result (λ made. objects_on (declarations domain.names) domain.actions domain.constraints form.now ≡ fine made) }
+    ensures err { IfErr result (λ fault. ¬ (fault ≡ Fault.Memory) →
+        first (objects_on (declarations domain.names) domain.actions domain.constraints form.now) ≡ Some fault) }
+{
     let Domain {
         names,
         actions,
@@ -76,32 +71,58 @@ fn in_domain(alloc: Global, domain: Domain, form: &ProblemForm) -> Result<Proble
         ..
     } = domain;
     let constants = names.objects.len();
-    let names = with_objects(alloc, names, form)?;
-    let rest = checked_rest(alloc, &names, constraints, form)?;
-    let declared = declared_lists(alloc, names)?;
-    let titles = titles_of(alloc, form)?;
-    Ok(problem_of(titles, constants, declared, actions, rest))
+    match with_objects(alloc, names, form.objects.as_slice()) {
+        Ok(names) => in_names(alloc, constants, actions, constraints, form, names),
+        Err(fault) => Err(fault),
+    }
 }
 
-fn with_objects(alloc: Global, names: Names, form: &ProblemForm) -> Result<Names, Fault> {
+fn with_objects(alloc: Global, names: Names, groups: &[RawGroup]) -> Result<Names, Fault>
+    ensures ok { IfOk result (λ made. with_objects groups.now (declarations names) ≡ fine (declarations made)) }
+    ensures err { IfErr result (λ fault. ¬ (fault ≡ Fault.Memory) → first (with_objects groups.now (declarations names)) ≡ Some fault) }
+{
     let mut names = names;
-    match declare_objects(alloc, &mut names, form.objects.as_slice()) {
+    match declare_objects(alloc, &mut names, groups) {
         Ok(()) => Ok(names),
         Err(fault) => Err(fault),
     }
 }
 
-fn checked_rest(
+// The problem where all objects are declared.
+#[tactic(auto, using(up_phrase::proofs::Steps::steps))]
+fn in_names(
+    alloc: Global,
+    constants: usize,
+    actions: List<Action>,
+    constraints: List<Constraint>,
+    form: &ProblemForm,
+    names: Names,
+) -> Result<Problem, Fault>
+    ensures ok { IfOk result (λ made. in_names constants actions constraints form.now (declarations names) ≡ fine made) }
+    ensures err { IfErr result (λ fault. ¬ (fault ≡ Fault.Memory) →
+        first (in_names constants actions constraints form.now (declarations names)) ≡ Some fault) }
+{
+    match checked_statements(alloc, &names, constraints, form) {
+        Ok(stated) => Ok(with_statements(alloc, constants, actions, form, names, stated)?),
+        Err(fault) => Err(fault),
+    }
+}
+
+#[tactic(auto, using(crate::proofs::Following::following, up_phrase::proofs::Steps::steps))]
+fn checked_statements(
     alloc: Global,
     names: &Names,
     constraints: List<Constraint>,
     form: &ProblemForm,
-) -> Result<Rest, Fault> {
+) -> Result<Stated, Fault>
+    ensures ok { IfOk result (λ made. stated (declarations names.now) constraints form.now ≡ fine made) }
+    ensures err { IfErr result (λ fault. ¬ (fault ≡ Fault.Memory) → first (stated (declarations names.now) constraints form.now) ≡ Some fault) }
+{
     let init = init_of(alloc, names, form.init.as_slice())?;
     let goal = goal_of(alloc, names, &form.goal)?;
     let constraints = push_constraints(alloc, names, &form.constraints, constraints)?;
     let metric = metric_of(alloc, names, &form.metric)?;
-    Ok(Rest {
+    Ok(Stated {
         init,
         goal,
         constraints,
@@ -109,28 +130,48 @@ fn checked_rest(
     })
 }
 
-fn init_of(alloc: Global, names: &Names, members: &[RawInit]) -> Result<InitLists, Fault> {
-    let init = checked_init(alloc, names, members)?;
-    Ok(init_lists(alloc, init)?)
-}
-
-fn goal_of(alloc: Global, names: &Names, goal: &RawFormula) -> Result<Box<Formula>, Fault> {
+fn goal_of(alloc: Global, names: &Names, goal: &RawFormula) -> Result<Box<Formula>, Fault>
+    ensures ok { IfOk result (λ made. formula (declarations names.now) [] Setting.Plain goal.now ≡ fine made) }
+    ensures err { IfErr result (λ fault. ¬ (fault ≡ Fault.Memory) → first (formula (declarations names.now) [] Setting.Plain goal.now) ≡ Some fault) }
+{
     Ok(Box::new(alloc, checked_goal(alloc, names, goal)?)?)
 }
 
+#[tactic(auto, using(up_phrase::proofs::Steps::steps))]
 fn metric_of(
     alloc: Global,
     names: &Names,
     metric: &Option<RawMetric>,
-) -> Result<Option<Box<Metric>>, Fault> {
+) -> Result<Option<Box<Metric>>, Fault>
+    ensures ok { IfOk result (λ made. metric_of (declarations names.now) metric.now ≡ fine made) }
+    ensures err { IfErr result (λ fault. ¬ (fault ≡ Fault.Memory) → first (metric_of (declarations names.now) metric.now) ≡ Some fault) }
+{
     match metric {
         None => Ok(None),
         Some(raw) => Ok(Some(Box::new(alloc, checked_metric(alloc, names, raw)?)?)),
     }
 }
 
+fn with_statements(
+    alloc: Global,
+    constants: usize,
+    actions: List<Action>,
+    form: &ProblemForm,
+    names: Names,
+    stated: Stated,
+) -> Result<Problem, Memory>
+    ensures { IfOk result (λ made. made ≡ parts constants actions form.now (declarations names) stated) }
+{
+    let declared = declared_lists(alloc, names)?;
+    let titles = titles_of(alloc, form)?;
+    Ok(problem_of(titles, constants, declared, actions, stated))
+}
+
 // The domain is the one that the form names.
-fn titles_of(alloc: Global, form: &ProblemForm) -> Result<Titles, Memory> {
+fn titles_of(alloc: Global, form: &ProblemForm) -> Result<Titles, Memory>
+    ensures domain { IfOk result (λ titles. titles.domain ≡ form.now.domain.name) }
+    ensures problem { IfOk result (λ titles. titles.problem ≡ form.now.name.name) }
+{
     Ok(Titles {
         domain: form.domain.name.copy(alloc)?,
         problem: form.name.name.copy(alloc)?,
@@ -142,10 +183,12 @@ fn problem_of(
     constants: usize,
     declared: Declared,
     actions: List<Action>,
-    rest: Rest,
-) -> Problem {
-    let goal = rest.goal.into_inner();
-    let metric = unboxed(rest.metric);
+    stated: Stated,
+) -> Problem
+    ensures { result ≡ composed titles constants declared actions stated }
+{
+    let goal = stated.goal.into_inner();
+    let metric = unboxed(stated.metric);
     Problem::new(Parts {
         domain: titles.domain,
         name: titles.problem,
@@ -154,112 +197,21 @@ fn problem_of(
         objects: declared.objects,
         predicates: declared.predicates,
         functions: declared.functions,
-        atoms: rest.init.atoms,
-        numbers: rest.init.numbers,
-        values: rest.init.values,
+        atoms: stated.init.atoms,
+        numbers: stated.init.numbers,
+        values: stated.init.values,
         actions,
         goal,
         metric,
-        constraints: rest.constraints,
+        constraints: stated.constraints,
     })
 }
 
-fn unboxed(metric: Option<Box<Metric>>) -> Option<Metric> {
+fn unboxed(metric: Option<Box<Metric>>) -> Option<Metric>
+    ensures { result ≡ metric }
+{
     match metric {
         None => None,
         Some(metric) => Some(metric.into_inner()),
     }
-}
-
-fn declared_lists(alloc: Global, names: Names) -> Result<Declared, Memory> {
-    let Names {
-        types,
-        objects,
-        predicates,
-        functions,
-    } = names;
-    Ok(Declared {
-        types: typed_of(alloc, types)?,
-        objects: typed_of(alloc, objects)?,
-        predicates: predicates_of(alloc, predicates)?,
-        functions: functions_of(alloc, functions)?,
-    })
-}
-
-fn init_lists(alloc: Global, init: Init) -> Result<InitLists, Memory> {
-    let Init {
-        atoms,
-        numbers,
-        values,
-    } = init;
-    Ok(InitLists {
-        atoms: facts_of(alloc, atoms)?,
-        numbers: number_facts_of(alloc, numbers)?,
-        values: value_facts_of(alloc, values)?,
-    })
-}
-
-fn typed_of(alloc: Global, table: IndexMap<Name, Name>) -> Result<List<Typed>, Memory> {
-    let mut list = List::new(alloc);
-    for (name, of) in table {
-        list.push(Typed { name, of })?;
-    }
-    Ok(list)
-}
-
-fn predicates_of(
-    alloc: Global,
-    table: IndexMap<Name, List<Name>>,
-) -> Result<List<Predicate>, Memory> {
-    let mut list = List::new(alloc);
-    for (name, args) in table {
-        list.push(Predicate { name, args })?;
-    }
-    Ok(list)
-}
-
-fn functions_of(alloc: Global, table: IndexMap<Name, Signature>) -> Result<List<Function>, Memory> {
-    let mut list = List::new(alloc);
-    for (name, Signature { args, gives }) in table {
-        list.push(Function { name, args, gives })?;
-    }
-    Ok(list)
-}
-
-fn facts_of(alloc: Global, set: IndexSet<Ground>) -> Result<List<Fact>, Memory> {
-    let mut list = List::new(alloc);
-    for Ground { name, args } in set {
-        list.push(Fact {
-            predicate: name,
-            args: List::from_vec(args),
-        })?;
-    }
-    Ok(list)
-}
-
-fn number_facts_of(
-    alloc: Global,
-    table: IndexMap<Ground, Frac>,
-) -> Result<List<NumberFact>, Memory> {
-    let mut list = List::new(alloc);
-    for (Ground { name, args }, value) in table {
-        list.push(NumberFact {
-            function: name,
-            args: List::from_vec(args),
-            value,
-        })?;
-    }
-    Ok(list)
-}
-
-fn value_facts_of(alloc: Global, table: IndexMap<Ground, Name>) -> Result<List<ValueFact>, Memory> {
-    let mut list = List::new(alloc);
-    for (Ground { name, args }, value) in table {
-        list.push(ValueFact {
-            function: name,
-            args: List::from_vec(args),
-            value,
-        })?;
-    }
-    Ok(list)
 }

@@ -1,6 +1,10 @@
-ghost use Rattle.std.specs.Prelude.{◌≡◌, IfOk, IfErr, OnOk};
+ghost use Rattle.std.specs.Prelude.{◌≡◌, [], IfOk, IfErr, OnOk};
+ghost use Rattle.pddl_lex.specs.Faults.{faults_to_depth};
+ghost use Rattle.pddl_lex.specs.Verdicts.{fine};
 ghost use Rattle.pddl_parse.specs.Texts.{domain, problem};
-ghost use Rattle.up_check.specs.Passes.{FirstFault, HasForm, HaveForms, IsForm, IsOfFile, StopsInDomain, StopsInProblem};
+ghost use Rattle.up_check.specs.Domains.{domain_names, known_of};
+ghost use Rattle.up_check.specs.Passes.{AreShallow, FirstFault, FormStops, HasDomain, HasForm, HaveForms, IsForm, NamesStop, ReadsAs, Reads, StopsInDomain, StopsInProblem};
+ghost use Rattle.up_check.specs.Problems.{problem_names};
 ghost use Rattle.up_check.specs.Refusals.{bare_refused, bytes_refused, refused, shape_refused};
 
 use crate::domain::{Domain, checked_domain};
@@ -17,30 +21,36 @@ use up_tree::Problem;
 ///
 /// Errors: `Refused` with the first fault, of the domain text before the problem text and of its bytes and brackets before its
 /// forms before its names; `Memory`.
-#[tactic(auto, using(crate::proofs::Passes::passes))]
 pub fn read_problem(alloc: Global, domain: &[u8], problem: &[u8]) -> Result<Problem, ReadError>
+    ensures reads { IfOk result (Reads domain.now problem.now) }
+    ensures depth { OnOk result (AreShallow domain.now problem.now) }
     ensures forms { OnOk result (HaveForms domain.now problem.now) }
     ensures refused { IfErr result (λ refusal. ¬ (refusal ≡ ReadError.Memory) → FirstFault domain.now problem.now refusal) }
 {
-    let domain = domain_of(alloc, domain)?;
-    problem_of(alloc, domain, problem)
+    match domain_of(alloc, domain) {
+        Ok(domain) => problem_of(alloc, domain, problem),
+        Err(refusal) => Err(refusal),
+    }
 }
 
 // The domain of a text.
-#[tactic(auto, using(crate::proofs::Passes::passes))]
 fn domain_of(alloc: Global, text: &[u8]) -> Result<Domain, ReadError>
+    ensures reads { IfOk result (λ made. HasDomain text.now (known_of made)) }
     ensures form { OnOk result (IsForm domain text.now) }
     ensures refused { IfErr result (λ refusal. ¬ (refusal ≡ ReadError.Memory) → StopsInDomain text.now refusal) }
 {
-    let form = domain_form_of(alloc, text)?;
-    named_domain(alloc, &form)
+    match domain_form_of(alloc, text) {
+        Ok(form) => named_domain(alloc, &form),
+        Err(refusal) => Err(refusal),
+    }
 }
 
 // The problem of a text, whose domain was read.
-#[tactic(auto, using(crate::proofs::Passes::passes))]
 fn problem_of(alloc: Global, domain: Domain, text: &[u8]) -> Result<Problem, ReadError>
+    ensures reads { IfOk result (ReadsAs problem (problem_names (known_of domain)) text.now) }
+    ensures depth { OnOk result (faults_to_depth text.now ≡ []) }
     ensures form { OnOk result (IsForm problem text.now) }
-    ensures refused { IfErr result (λ refusal. ¬ (refusal ≡ ReadError.Memory) → StopsInProblem text.now refusal) }
+    ensures refused { IfErr result (λ refusal. ¬ (refusal ≡ ReadError.Memory) → StopsInProblem (known_of domain) text.now refusal) }
 {
     match problem_form_of(alloc, text) {
         Ok(form) => named_problem(alloc, domain, &form),
@@ -48,9 +58,10 @@ fn problem_of(alloc: Global, domain: Domain, text: &[u8]) -> Result<Problem, Rea
     }
 }
 
-#[tactic(auto, using(crate::proofs::Passes::passes))]
+#[tactic(auto, using(crate::proofs::Passes::naming))]
 fn named_domain(alloc: Global, form: &DomainForm) -> Result<Domain, ReadError>
-    ensures { IfErr result (λ refusal. ¬ (refusal ≡ ReadError.Memory) → IsOfFile File.Domain refusal) }
+    ensures ok { IfOk result (λ made. domain_names form.now ≡ fine (known_of made)) }
+    ensures refused { IfErr result (λ refusal. ¬ (refusal ≡ ReadError.Memory) → NamesStop domain_names File.Domain form.now refusal) }
 {
     match checked_domain(alloc, form) {
         Ok(domain) => Ok(domain),
@@ -58,9 +69,10 @@ fn named_domain(alloc: Global, form: &DomainForm) -> Result<Domain, ReadError>
     }
 }
 
-#[tactic(auto, using(crate::proofs::Passes::passes))]
+#[tactic(auto, using(crate::proofs::Passes::naming))]
 fn named_problem(alloc: Global, domain: Domain, form: &ProblemForm) -> Result<Problem, ReadError>
-    ensures { IfErr result (λ refusal. ¬ (refusal ≡ ReadError.Memory) → IsOfFile File.Problem refusal) }
+    ensures ok { IfOk result (λ made. problem_names (known_of domain) form.now ≡ fine made) }
+    ensures refused { IfErr result (λ refusal. ¬ (refusal ≡ ReadError.Memory) → NamesStop (problem_names (known_of domain)) File.Problem form.now refusal) }
 {
     match checked_problem(alloc, domain, form) {
         Ok(problem) => Ok(problem),
@@ -72,7 +84,7 @@ fn named_problem(alloc: Global, domain: Domain, form: &ProblemForm) -> Result<Pr
 #[tactic(auto, using(crate::proofs::Passes::passes))]
 fn domain_form_of(alloc: Global, text: &[u8]) -> Result<DomainForm, ReadError>
     ensures form { IfOk result (HasForm domain text.now) }
-    ensures refused { IfErr result (λ refusal. ¬ (refusal ≡ ReadError.Memory) → StopsInDomain text.now refusal) }
+    ensures refused { IfErr result (λ refusal. ¬ (refusal ≡ ReadError.Memory) → FormStops domain File.Domain text.now refusal) }
 {
     let trees = match brackets(alloc, text) {
         Ok(trees) => trees,
@@ -88,7 +100,7 @@ fn domain_form_of(alloc: Global, text: &[u8]) -> Result<DomainForm, ReadError>
 #[tactic(auto, using(crate::proofs::Passes::passes))]
 fn problem_form_of(alloc: Global, text: &[u8]) -> Result<ProblemForm, ReadError>
     ensures form { IfOk result (HasForm problem text.now) }
-    ensures refused { IfErr result (λ refusal. ¬ (refusal ≡ ReadError.Memory) → StopsInProblem text.now refusal) }
+    ensures refused { IfErr result (λ refusal. ¬ (refusal ≡ ReadError.Memory) → FormStops problem File.Problem text.now refusal) }
 {
     let trees = match brackets(alloc, text) {
         Ok(trees) => trees,
