@@ -1,0 +1,14 @@
+pub mod Declared
+pub mod Division
+pub mod Domains
+pub mod EffectPhrases
+pub mod Known
+pub mod Lexes
+pub mod Named
+pub mod Numbers
+pub mod Phrases
+pub mod Placeless
+pub mod Problems
+pub mod Sections
+pub mod Signs
+pub mod Spelled

@@ -1,0 +1,4 @@
+pub mod EffectTokens
+pub mod FileTokens
+pub mod Laws
+pub mod Tokens
