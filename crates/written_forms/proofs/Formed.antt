@@ -1,0 +1,18 @@
+-- Tokens that are written for conditions spell their abstract syntax.
+use Rattle.std.proofs.Common.{List}
+use Rattle.up_tree.specs.declared.formula.Formula.{Formula}
+use Rattle.pddl_lex.specs.declared.tree.Token.{Token}
+use Rattle.std.specs.Prelude.{Bool}
+use Rattle.written_forms.specs.Laws.{SpellsCondition, ConditionsAreFormed}
+use Rattle.written_forms.specs.Raw.{IsRawFormula}
+use Rattle.written_forms.proofs.Trees.{Formed}
+use Rattle.written_forms.proofs.Names.{well_named}
+use Rattle.written_forms.proofs.Formulas.{SpellsFormula, spells_formula, formula_formed}
+
+spelled : (typed : Bool) (f : Formula) (tokens : List Token) (formed : Formed tokens (SpellsFormula (IsRawFormula typed f))) → SpellsFormula (IsRawFormula typed f) formed.tree → SpellsCondition typed f tokens
+spelled typed f tokens formed (spells_formula raw is so) = record { tree = formed.tree; form = raw; bracketed = formed.bracketed; spelled = is; is = so }
+
+pub conditions_are_formed : ConditionsAreFormed
+conditions_are_formed p well objects scope objects_named scope_named typed f is tokens kinds =
+    let formed = formula_formed p (well_named p well) objects objects_named typed scope scope_named f is tokens kinds in
+    spelled typed f tokens formed formed.is

@@ -1,0 +1,31 @@
+-- Laws of the abstract syntax that is read where a condition is written.
+use Rattle.std.specs.Prelude.{◌≡◌, Bool, List, [], ◌∷◌, map}
+use Rattle.up_text.specs.Names.{IsName}
+use Rattle.up_text.specs.Lists.{Every}
+use Rattle.up_tree.specs.declared.term.Typed.{Typed}
+use Rattle.up_tree.specs.declared.formula.Formula.{Formula}
+use Rattle.up_tree.specs.declared.problem.Parts.{Parts}
+use Rattle.up_tree.specs.WellFormed as tree
+use Rattle.up_tree.specs.WellFormed.{IsWellFormed}
+use Rattle.pddl_lex.specs.declared.tree.Token.{Token}
+use Rattle.pddl_lex.specs.declared.tree.Sexp.{Sexp}
+use Rattle.pddl_lex.specs.Brackets.{Bracketed}
+use Rattle.pddl_parse.specs.declared.raw.RawFormula.{RawFormula}
+use Rattle.pddl_parse.specs.Forms.{IsFormula}
+use Rattle.written_tokens.specs.Tokens.{formula_tokens}
+use Rattle.written_forms.specs.Raw.{IsRawFormula}
+
+-- the tokens are those of one tree, which spells the abstract syntax of the condition
+pub record SpellsCondition (typed : Bool) (f : Formula) (tokens : List Token) : Type 0 where
+  pub tree : Sexp
+  pub form : RawFormula
+  pub bracketed : Bracketed tokens (tree ∷ [])
+  pub spelled : IsFormula tree form
+  pub is : IsRawFormula typed f form
+
+-- where the objects and variables that may stand in the condition have names, tokens of the written kinds do so
+abbrev pub ConditionsAreFormed : Type 0
+ConditionsAreFormed =
+    (p : Parts) → IsWellFormed p → (objects scope : List Typed) → Every (λ o. IsName o.name) objects → Every (λ v. IsName v.name) scope
+    → (typed : Bool) (f : Formula) → tree.IsFormula p objects scope f
+    → (tokens : List Token) → map (λ t. t.kind) tokens ≡ formula_tokens typed f → SpellsCondition typed f tokens

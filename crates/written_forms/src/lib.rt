@@ -1,0 +1,6 @@
+//! Laws of the abstract syntax that written texts are read as.
+#![tactic(auto)]
+
+mod laws;
+
+pub use laws::conditions_are_formed;
