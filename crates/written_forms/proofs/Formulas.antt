@@ -44,7 +44,7 @@ pub data SpellFormulas (P : List RawFormula → Type 0) (trees : List Sexp) : Ty
   spell_formulas : (fs : List RawFormula) → forms.AreFormulas trees fs → P fs → SpellFormulas P trees
 
 -- a word in front of trees of which this is so, in brackets
-worded : (word : List ℕ) (ks : List TokenKind) (Q : List Sexp → Type 0) → ((back : List Token) → kinds_of back ≡ ks → Rowed back Q)
+pub worded : (word : List ℕ) (ks : List TokenKind) (Q : List Sexp → Type 0) → ((back : List Token) → kinds_of back ≡ ks → Rowed back Q)
     → (P : Sexp → Type 0) → ((place there : Place) (rest : List Sexp) → Q rest → P (Group place (forms.leaf (kind.Word word) there ∷ rest)))
     → (tokens : List Token) → kinds_of tokens ≡ group (kind.Word word ∷ ks) → Formed tokens P
 worded word ks Q more P each tokens kinds =
@@ -120,7 +120,7 @@ module _ (place there : Place) where
       spells_formula (form.Forall groups f) (forms.of_forall place there at_vars trees groups two f are is) (a_forall groups f raws so)
 
 module _ (p : Parts) (names : AreNamed p) (objects : List Typed) (objects_named : AllNamed objects) (typed : Bool) where
-  list_formed : (scope vars : List Typed) → AreVariables p scope vars → (tokens : List Token) → kinds_of tokens ≡ group (variables_tokens typed vars)
+  pub list_formed : (scope vars : List Typed) → AreVariables p scope vars → (tokens : List Token) → kinds_of tokens ≡ group (variables_tokens typed vars)
       → Formed tokens (Bracket (SpellGroups typed vars))
   list_formed scope vars are =
       bracket_formed (variables_tokens typed vars) (SpellGroups typed vars)

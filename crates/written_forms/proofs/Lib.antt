@@ -1,6 +1,9 @@
+pub mod EffectWords
+pub mod Effects
 pub mod Formed
 pub mod Formulas
 pub mod Groups
 pub mod Names
+pub mod Rows
 pub mod Terms
 pub mod Trees
