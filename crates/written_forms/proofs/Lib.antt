@@ -1,3 +1,4 @@
+pub mod Actions
 pub mod EffectWords
 pub mod Effects
 pub mod Formed

@@ -52,7 +52,7 @@ unfolding groups_in value_of
 only (fine gs) f groups is = ap (λ (w : Read RawFormula). fine (groups_in (value_of f w))) is
 only (faulty fault others) f groups is = absurd cc
 
-variables_read : (there : Place) (trees : List Sexp) (groups : List RawGroup) → forms.AreTyped trees groups → variables (Group there trees) ≡ fine groups
+pub variables_read : (there : Place) (trees : List Sexp) (groups : List RawGroup) → forms.AreTyped trees groups → variables (Group there trees) ≡ fine groups
 variables_read there trees groups are =
     let body : Sexp = Group there (forms.leaf (kind.Word (codes "and")) there ∷ []) in
     let body_is : forms.IsFormula (Group there (forms.leaf (kind.Word (codes "and")) there ∷ [])) (form.And []) = forms.of_and there there [] [] forms.no_formulas in

@@ -1,4 +1,4 @@
--- The abstract syntax that effects have, wherever its parts stand in a text.
+-- The abstract syntax that effects and actions have, wherever its parts stand in a text.
 use Rattle.std.specs.Prelude.{Bool, true, false, List, [], ◌∷◌}
 use Rattle.up_text.specs.declared.name.Name.{Name}
 use Rattle.up_text.specs.declared.place.Place.{Place}
@@ -9,6 +9,7 @@ use Rattle.up_tree.specs.declared.action.Change.TheVariants as tree
 use Rattle.up_tree.specs.declared.action.Effect.{Effect}
 use Rattle.up_tree.specs.declared.action.Effect.TheVariants as effect
 use Rattle.up_tree.specs.declared.action.Row.{Row}
+use Rattle.up_tree.specs.declared.action.Action.{Action}
 use Rattle.up_tree.specs.Simplify.{is_always}
 use Rattle.pddl_parse.specs.declared.raw.Ident.{Ident}
 use Rattle.pddl_parse.specs.declared.raw.RawGroup.{RawGroup}
@@ -17,6 +18,7 @@ use Rattle.pddl_parse.specs.declared.raw.RawFormula.{RawFormula}
 use Rattle.pddl_parse.specs.declared.raw.RawCall.{RawCall}
 use Rattle.pddl_parse.specs.declared.raw.RawChange.{RawChange}
 use Rattle.pddl_parse.specs.declared.raw.RawChange.TheVariants as change
+use Rattle.pddl_parse.specs.declared.raw.RawAction.{RawAction}
 use Rattle.pddl_parse.specs.declared.raw.RawEffect as raw
 use Rattle.pddl_parse.specs.declared.raw.RawEffect.{RawEffect}
 use Rattle.written_forms.specs.Raw.{IsEmpty, IsFirst, IsRawName, AreRawGroups, IsRawTerm, AreRawTerms, IsRawExpr, IsRawFormula}
@@ -81,3 +83,9 @@ AreRawRows typed (r ∷ rows) es = IsFirst (IsRawRow typed r) (AreRawRows typed 
 
 pub data IsRawAll (Es : List RawEffect → Type 0) : RawEffect → Type 0 where
   all_of : (es : List RawEffect) → Es es → IsRawAll Es (raw.And es)
+
+pub record IsRawAction (typed : Bool) (a : Action) (action : RawAction) : Type 0 where
+  pub name : IsRawName a.name action.name
+  pub params : AreRawGroups typed a.params action.params
+  pub pre : IsRawFormula typed a.pre action.pre
+  pub effect : IsRawAll (AreRawRows typed a.rows) action.effect

@@ -1,4 +1,4 @@
-ghost use Rattle.written_forms.specs.Laws.{ConditionsAreFormed, EffectsAreFormed};
+ghost use Rattle.written_forms.specs.Laws.{ActionsAreFormed, ConditionsAreFormed, EffectsAreFormed};
 
 /// A law: tokens of the kinds that are written for a condition are those of one bracket tree, which spells the condition's
 /// abstract syntax.
@@ -10,4 +10,10 @@ pub fn conditions_are_formed()
 /// the effect's abstract syntax.
 pub fn effects_are_formed()
     ensures { EffectsAreFormed }
+{}
+
+/// A law: tokens of the kinds that are written for an action of a well formed problem are those of one bracket, which is
+/// read as the action's abstract syntax.
+pub fn actions_are_formed()
+    ensures { ActionsAreFormed }
 {}

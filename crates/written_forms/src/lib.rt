@@ -3,4 +3,4 @@
 
 mod laws;
 
-pub use laws::{conditions_are_formed, effects_are_formed};
+pub use laws::{actions_are_formed, conditions_are_formed, effects_are_formed};
