@@ -8,16 +8,18 @@ use Rattle.up_pipeline.specs.declared.engine.EngineError.TheVariants as engine
 use Rattle.up_top.specs.declared.command.Command.{Command}
 use Rattle.up_top.specs.declared.command.Command.TheVariants as command
 use Rattle.up_top.specs.declared.answer.Stop.TheVariants as stop
+use Rattle.up_validate.specs.declared.verdict.Verdict.TheVariants as verdict
+use Rattle.up_top.specs.declared.answer.Conversion.TheVariants as conversion
 use Rattle.up_top.specs.declared.answer.Answer.{Answer}
 use Rattle.up_top.specs.declared.answer.Answer.TheVariants as answer
 use Rattle.up_top.specs.declared.status.Status.{Status}
 use Rattle.up_top.specs.declared.status.Status.TheVariants.{Done, Usage, Memory, Missing, ReadFault, WriteFault, DomainRefused, ProblemRefused, EngineRefused, NoPipeline, TooMany, MapRefused, PlanRefused, PlanUnfit, PlanInvalid, NumberTooLarge, InputTooLarge}
 use Rattle.up_top.proofs.Ends.{leaves_ended}
 use Rattle.up_top.specs.Words.{command_of}
-use Rattle.up_top.specs.Cause.{HasOutputs, IsKind, IsPipeline}
+use Rattle.up_top.specs.Cause.{IsBack, IsCompile}
 use Rattle.up_top.specs.Answers.{status_of, answer_text}
 use Rattle.up_top.specs.Inputs.{Tells}
-use Rattle.up_top.specs.Run.{Compiles, CompilesAt, CompilesDone}
+use Rattle.up_top.specs.Run.{CarriesAt, CarriesDone, Compiles, CompilesAt, CompilesDone}
 use Rattle.up_top.specs.Says.{IsOf, Puts, PutsAnswer, ended}
 
 not_done : (status : Status) → ¬ (ended status false ≡ Done)
@@ -74,11 +76,12 @@ answered words held answer (Err e) before now old new of tells other whole prefi
 compiled : (words : List (List ℕ)) (command : Option Command) (answer : Answer) (put : Result Unit SinkFailed) (held kept : Option Files) (old new : Option (List ℕ))
     → IsOf command answer → CompilesAt words held kept answer
     → OnOk put (new ≡ written_with (answer_text words answer) old)
-    → ended (status_of answer) (is_ok put) ≡ Done → HasOutputs command → CompilesDone words held kept old new
+    → ended (status_of answer) (is_ok put) ≡ Done → IsCompile command → CompilesDone words held kept old new
 compiled words None answer put held kept old new of compiles whole done has = absurd has
 compiled words (Some command.Kind) answer put held kept old new of compiles whole done has = absurd has
 compiled words (Some command.Pipeline) answer put held kept old new of compiles whole done has = absurd has
 compiled words (Some command.Validate) answer put held kept old new of compiles whole done has = absurd has
+compiled words (Some command.Back) answer put held kept old new of compiles whole done has = absurd has
 compiled words (Some (command.Compile limit)) (answer.Features kind) put held kept old new of compiles whole done has = absurd of
 compiled words (Some (command.Compile limit)) (answer.Chain chain) put held kept old new of compiles whole done has = absurd of
 compiled words (Some (command.Compile limit)) (answer.Actions count) (Ok u) held kept old new of compiles whole done has = record { count = count; compiles = compiles; put = whole }
@@ -94,6 +97,7 @@ compiled words (Some (command.Compile limit)) (answer.Unread (engine.UnknownFeat
 compiled words (Some (command.Compile limit)) (answer.Judged verdict) put held kept old new of compiles whole done has = absurd of
 compiled words (Some (command.Compile limit)) (answer.Unspelled place) put held kept old new of compiles whole done has = absurd of
 compiled words (Some (command.Compile limit)) (answer.TooLarge number) put held kept old new of compiles whole done has = absurd of
+compiled words (Some (command.Compile limit)) (answer.Converted conversion) put held kept old new of compiles whole done has = absurd of
 compiled words (Some (command.Compile limit)) (answer.Stopped stop.Usage) put held kept old new of compiles whole done has = cc
 compiled words (Some (command.Compile limit)) (answer.Stopped stop.Memory) put held kept old new of compiles whole done has = cc
 compiled words (Some (command.Compile limit)) (answer.Stopped (stop.Missing at)) put held kept old new of compiles whole done has = cc
@@ -105,7 +109,55 @@ compiled words (Some (command.Compile limit)) (answer.Stopped (stop.InputTooLarg
 pub compiles_done : (words : List (List ℕ)) (answer : Answer) (put : Result Unit SinkFailed) (held kept : Option Files) (old new : Option (List ℕ))
     → IsOf (command_of words) answer → CompilesAt words held kept answer
     → OnOk put (new ≡ written_with (answer_text words answer) old)
-    → ended (status_of answer) (is_ok put) ≡ Done → HasOutputs (command_of words) → CompilesDone words held kept old new
+    → ended (status_of answer) (is_ok put) ≡ Done → IsCompile (command_of words) → CompilesDone words held kept old new
 compiles_done words answer put held kept old new of compiles whole done has = compiled words (command_of words) answer put held kept old new of compiles whole done has
 
-pub ruleset answers = (answered, leaves_ended, compiles_done)
+-- an answer of `back` that is done tells that a converted plan is valid
+carried : (words : List (List ℕ)) (command : Option Command) (answer : Answer) (put : Result Unit SinkFailed) (held kept : Option Files) (old new : Option (List ℕ))
+    → IsOf command answer → CarriesAt words held kept answer
+    → OnOk put (new ≡ written_with (answer_text words answer) old)
+    → ended (status_of answer) (is_ok put) ≡ Done → IsBack command → CarriesDone words held kept old new
+carried words None answer put held kept old new of carries whole done has = absurd has
+carried words (Some command.Kind) answer put held kept old new of carries whole done has = absurd has
+carried words (Some command.Pipeline) answer put held kept old new of carries whole done has = absurd has
+carried words (Some (command.Compile limit)) answer put held kept old new of carries whole done has = absurd has
+carried words (Some command.Validate) answer put held kept old new of carries whole done has = absurd has
+carried words (Some command.Back) (answer.Features kind) put held kept old new of carries whole done has = absurd of
+carried words (Some command.Back) (answer.Chain chain) put held kept old new of carries whole done has = absurd of
+carried words (Some command.Back) (answer.Actions count) put held kept old new of carries whole done has = absurd of
+carried words (Some command.Back) (answer.Refused file.Domain place reason name) put held kept old new of carries whole done has = cc
+carried words (Some command.Back) (answer.Refused file.Problem place reason name) put held kept old new of carries whole done has = cc
+carried words (Some command.Back) (answer.Unread engine.Memory) put held kept old new of carries whole done has = cc
+carried words (Some command.Back) (answer.Unread engine.Toml) put held kept old new of carries whole done has = cc
+carried words (Some command.Back) (answer.Unread (engine.UnknownKey word)) put held kept old new of carries whole done has = cc
+carried words (Some command.Back) (answer.Unread (engine.NoKey word)) put held kept old new of carries whole done has = cc
+carried words (Some command.Back) (answer.Unread (engine.WrongType word)) put held kept old new of carries whole done has = cc
+carried words (Some command.Back) (answer.Unread (engine.UnknownFeature word)) put held kept old new of carries whole done has = cc
+carried words (Some command.Back) (answer.Judged verdict) put held kept old new of carries whole done has = absurd of
+carried words (Some command.Back) (answer.Unspelled place) put held kept old new of carries whole done has = absurd of
+carried words (Some command.Back) (answer.TooLarge number) put held kept old new of carries whole done has = absurd of
+carried words (Some command.Back) (answer.Converted (conversion.Judged (verdict.Valid metric))) (Ok u) held kept old new of carries whole done has = record { metric = metric; carries = carries; put = whole }
+carried words (Some command.Back) (answer.Converted (conversion.Judged (verdict.Valid metric))) (Err e) held kept old new of carries whole done has = cc
+carried words (Some command.Back) (answer.Converted (conversion.Judged (verdict.BadStep number reason))) put held kept old new of carries whole done has = cc
+carried words (Some command.Back) (answer.Converted (conversion.Judged verdict.GoalOpen)) put held kept old new of carries whole done has = cc
+carried words (Some command.Back) (answer.Converted (conversion.Judged (verdict.Broken number))) put held kept old new of carries whole done has = cc
+carried words (Some command.Back) (answer.Converted (conversion.BadLine number)) put held kept old new of carries whole done has = cc
+carried words (Some command.Back) (answer.Converted (conversion.SecondLine number)) put held kept old new of carries whole done has = cc
+carried words (Some command.Back) (answer.Converted (conversion.Unspelled place)) put held kept old new of carries whole done has = cc
+carried words (Some command.Back) (answer.Converted (conversion.Unfit number)) put held kept old new of carries whole done has = cc
+carried words (Some command.Back) (answer.Converted (conversion.TooLarge number)) put held kept old new of carries whole done has = cc
+carried words (Some command.Back) (answer.Stopped stop.Usage) put held kept old new of carries whole done has = cc
+carried words (Some command.Back) (answer.Stopped stop.Memory) put held kept old new of carries whole done has = cc
+carried words (Some command.Back) (answer.Stopped (stop.Missing at)) put held kept old new of carries whole done has = cc
+carried words (Some command.Back) (answer.Stopped (stop.ReadFault at)) put held kept old new of carries whole done has = cc
+carried words (Some command.Back) (answer.Stopped (stop.WriteFault at)) put held kept old new of carries whole done has = cc
+carried words (Some command.Back) (answer.Stopped stop.NoPipeline) put held kept old new of carries whole done has = cc
+carried words (Some command.Back) (answer.Stopped (stop.InputTooLarge at)) put held kept old new of carries whole done has = cc
+
+pub carries_done : (words : List (List ℕ)) (answer : Answer) (put : Result Unit SinkFailed) (held kept : Option Files) (old new : Option (List ℕ))
+    → IsOf (command_of words) answer → (IsBack (command_of words) → CarriesAt words held kept answer)
+    → OnOk put (new ≡ written_with (answer_text words answer) old)
+    → ended (status_of answer) (is_ok put) ≡ Done → IsBack (command_of words) → CarriesDone words held kept old new
+carries_done words answer put held kept old new of carries whole done has = carried words (command_of words) answer put held kept old new of (carries has) whole done has
+
+pub ruleset answers = (answered, leaves_ended, compiles_done, carries_done)

@@ -10,13 +10,6 @@ use Rattle.up_top.specs.declared.status.Status.TheVariants.{Done, Usage, Memory,
 use Rattle.up_top.specs.Words.{word_at, command_of}
 use Rattle.up_top.specs.Cause.{ReadCause, WriteCause, StopsAt, IsPlaced, IsReadable, AreReadable, AllWell, IsOutcome, inputs_end}
 
-few_inputs : (command : Option Command) → inputs_end command ≤ 4
-few_inputs None = omega arith
-few_inputs (Some command.Kind) = omega arith
-few_inputs (Some command.Pipeline) = omega arith
-few_inputs (Some (command.Compile limit)) = omega arith
-few_inputs (Some command.Validate) = omega arith
-
 two_readable : (words : List (List ℕ)) (files : Files) (at : ℕ) → AreReadable words 3 files → 1 ≤ at → at < 3 → IsReadable words at files
 two_readable words files zero all some few = absurd (omega arith)
 two_readable words files (suc zero) all some few = all.0.1
@@ -30,6 +23,14 @@ three_readable words files (suc (suc zero)) all some few = all.0.1
 three_readable words files (suc (suc (suc zero))) all some few = all.1
 three_readable words files (suc (suc (suc (suc at)))) all some few = absurd (omega arith)
 
+four_readable : (words : List (List ℕ)) (files : Files) (at : ℕ) → AreReadable words 5 files → 1 ≤ at → at < 5 → IsReadable words at files
+four_readable words files zero all some few = absurd (omega arith)
+four_readable words files (suc zero) all some few = all.0.0.0.1
+four_readable words files (suc (suc zero)) all some few = all.0.0.1
+four_readable words files (suc (suc (suc zero))) all some few = all.0.1
+four_readable words files (suc (suc (suc (suc zero)))) all some few = all.1
+four_readable words files (suc (suc (suc (suc (suc at))))) all some few = absurd (omega arith)
+
 readable_at : (command : Option Command) (words : List (List ℕ)) (files : Files) (at : ℕ) → AreReadable words (inputs_end command) files → 1 ≤ at → at < inputs_end command
     → IsReadable words at files
 readable_at None words files at all some few = three_readable words files at all some few
@@ -37,6 +38,7 @@ readable_at (Some command.Kind) words files at all some few = two_readable words
 readable_at (Some command.Pipeline) words files at all some few = three_readable words files at all some few
 readable_at (Some (command.Compile limit)) words files at all some few = three_readable words files at all some few
 readable_at (Some command.Validate) words files at all some few = three_readable words files at all some few
+readable_at (Some command.Back) words files at all some few = four_readable words files at all some few
 
 none_is_not_readable : (file : Option (List ℕ)) → file ≡ None → IsSomeAnd file (λ text. length text ≤ input_limit) → ⊥
 none_is_not_readable None is readable = readable
@@ -45,9 +47,6 @@ none_is_not_readable (Some text) is readable = cc
 not_both : (file : Option (List ℕ)) → IsSomeAnd file (λ text. input_limit < length text) → IsSomeAnd file (λ text. length text ≤ input_limit) → ⊥
 not_both None large readable = large
 not_both (Some text) large readable = omega arith
-
-in_time : (command : Option Command) (at : ℕ) → at < inputs_end command → at ≤ 3
-in_time command at few = omega (arith, few_inputs command, few)
 
 none_is_no_command : (command : Option Command) → command ≡ None → is_some command ≡ true → ⊥
 none_is_no_command None is fit = false≢true fit
@@ -64,18 +63,18 @@ well faults misses larges losses words old new before now files ProblemRefused u
 well faults misses larges losses words old new before now files EngineRefused usage placed read write put stops fit all = placed
 well faults misses larges losses words old new before now files NoPipeline usage placed read write put stops fit all = placed
 well faults misses larges losses words old new before now files TooMany usage placed read write put stops fit all = absurd placed
-well faults misses larges losses words old new before now files MapRefused usage placed read write put stops fit all = absurd placed
+well faults misses larges losses words old new before now files MapRefused usage placed read write put stops fit all = placed
 well faults misses larges losses words old new before now files PlanRefused usage placed read write put stops fit all = placed
-well faults misses larges losses words old new before now files PlanUnfit usage placed read write put stops fit all = absurd placed
+well faults misses larges losses words old new before now files PlanUnfit usage placed read write put stops fit all = placed
 well faults misses larges losses words old new before now files PlanInvalid usage placed read write put stops fit all = placed
 well faults misses larges losses words old new before now files NumberTooLarge usage placed read write put stops fit all = placed
 well faults misses larges losses words old new before now files Usage usage placed read write put stops fit all = absurd (none_is_no_command (command_of words) (usage.0 refl) fit)
 well faults misses larges losses words old new before now files (Missing at) usage placed read write put stops fit all =
     absurd (none_is_not_readable (files (word_at words at)) stops (readable_at (command_of words) words files at all.readable placed.0 placed.1))
 well faults misses larges losses words old new before now files (ReadFault at) usage placed read write put stops fit all =
-    absurd (all.reads at placed.0 (in_time (command_of words) at placed.1) read)
+    absurd (all.reads at placed.0 placed.1 read)
 well faults misses larges losses words old new before now files (WriteFault None) usage placed read write put stops fit all = absurd (all.puts (put refl))
-well faults misses larges losses words old new before now files (WriteFault (Some at)) usage placed read write put stops fit all = absurd (all.writes at placed.1 placed.2 write)
+well faults misses larges losses words old new before now files (WriteFault (Some at)) usage placed read write put stops fit all = absurd (all.writes at placed write)
 well faults misses larges losses words old new before now files (InputTooLarge at) usage placed read write put stops fit all =
     absurd (not_both (files (word_at words at)) stops (readable_at (command_of words) words files at all.readable placed.0 placed.1))
 

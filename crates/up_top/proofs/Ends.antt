@@ -12,8 +12,8 @@ use Rattle.up_top.specs.Words.{command_of}
 use Rattle.up_top.specs.declared.answer.Answer.{Answer}
 use Rattle.up_top.specs.Answers.{stop_status, status_of}
 use Rattle.up_top.specs.Says.{ended}
-use Rattle.up_top.specs.Cause.{ReadCause, WriteCause, StopsAt, FirstStop, StopsFirst, AreReadable, IsReadStop, IsInputStop, IsRefusal, IsReadRefusal, IsWriteStatus, IsPlaced, HasOutputs, HasEngine, inputs_end}
-use Rattle.up_top.specs.Run.{Leaves, untouched, wrote, HasPlace}
+use Rattle.up_top.specs.Cause.{ReadCause, WriteCause, StopsAt, FirstStop, StopsFirst, AreReadable, IsReadStop, IsInputStop, IsRefusal, IsReadRefusal, IsWriteStatus, IsPlaced, IsOutput, IsCompile, inputs_end}
+use Rattle.up_top.specs.Run.{Leaves, untouched, wrote, carried, HasPlace}
 
 -- the stop of one input is one of the inputs
 pub input_stop : (stop : Stop) (place end : ℕ) → IsReadStop place (stop_status stop) → 1 ≤ place → place < end → IsInputStop end (stop_status stop)
@@ -173,9 +173,9 @@ refusal_within words ProblemRefused kind = tt
 refusal_within words EngineRefused kind = tt
 refusal_within words NoPipeline kind = tt
 refusal_within words TooMany kind = absurd kind
-refusal_within words MapRefused kind = absurd kind
+refusal_within words MapRefused kind = tt
 refusal_within words PlanRefused kind = tt
-refusal_within words PlanUnfit kind = absurd kind
+refusal_within words PlanUnfit kind = tt
 refusal_within words PlanInvalid kind = tt
 refusal_within words NumberTooLarge kind = tt
 refusal_within words (InputTooLarge at) kind = absurd kind
@@ -192,9 +192,9 @@ refusal_fit ProblemRefused kind = λ same. cc
 refusal_fit EngineRefused kind = λ same. cc
 refusal_fit NoPipeline kind = λ same. cc
 refusal_fit TooMany kind = absurd kind
-refusal_fit MapRefused kind = absurd kind
+refusal_fit MapRefused kind = λ same. cc
 refusal_fit PlanRefused kind = λ same. cc
-refusal_fit PlanUnfit kind = absurd kind
+refusal_fit PlanUnfit kind = λ same. cc
 refusal_fit PlanInvalid kind = λ same. cc
 refusal_fit NumberTooLarge kind = λ same. cc
 refusal_fit (InputTooLarge at) kind = absurd kind
@@ -211,9 +211,9 @@ refusal_put ProblemRefused kind = λ same. cc
 refusal_put EngineRefused kind = λ same. cc
 refusal_put NoPipeline kind = λ same. cc
 refusal_put TooMany kind = absurd kind
-refusal_put MapRefused kind = absurd kind
+refusal_put MapRefused kind = λ same. cc
 refusal_put PlanRefused kind = λ same. cc
-refusal_put PlanUnfit kind = absurd kind
+refusal_put PlanUnfit kind = λ same. cc
 refusal_put PlanInvalid kind = λ same. cc
 refusal_put NumberTooLarge kind = λ same. cc
 refusal_put (InputTooLarge at) kind = absurd kind
@@ -230,9 +230,9 @@ refusal_held words old new ProblemRefused kind same = Leaves.untouched tt same
 refusal_held words old new EngineRefused kind same = Leaves.untouched tt same
 refusal_held words old new NoPipeline kind same = Leaves.untouched tt same
 refusal_held words old new TooMany kind same = absurd kind
-refusal_held words old new MapRefused kind same = absurd kind
+refusal_held words old new MapRefused kind same = Leaves.untouched tt same
 refusal_held words old new PlanRefused kind same = Leaves.untouched tt same
-refusal_held words old new PlanUnfit kind same = absurd kind
+refusal_held words old new PlanUnfit kind same = Leaves.untouched tt same
 refusal_held words old new PlanInvalid kind same = Leaves.untouched tt same
 refusal_held words old new NumberTooLarge kind same = Leaves.untouched tt same
 refusal_held words old new (InputTooLarge at) kind same = absurd kind
@@ -249,9 +249,9 @@ refusal_read faults misses larges words old new ProblemRefused kind = tt
 refusal_read faults misses larges words old new EngineRefused kind = tt
 refusal_read faults misses larges words old new NoPipeline kind = tt
 refusal_read faults misses larges words old new TooMany kind = absurd kind
-refusal_read faults misses larges words old new MapRefused kind = absurd kind
+refusal_read faults misses larges words old new MapRefused kind = tt
 refusal_read faults misses larges words old new PlanRefused kind = tt
-refusal_read faults misses larges words old new PlanUnfit kind = absurd kind
+refusal_read faults misses larges words old new PlanUnfit kind = tt
 refusal_read faults misses larges words old new PlanInvalid kind = tt
 refusal_read faults misses larges words old new NumberTooLarge kind = tt
 refusal_read faults misses larges words old new (InputTooLarge at) kind = absurd kind
@@ -268,9 +268,9 @@ refusal_write losses words old new ProblemRefused kind = tt
 refusal_write losses words old new EngineRefused kind = tt
 refusal_write losses words old new NoPipeline kind = tt
 refusal_write losses words old new TooMany kind = absurd kind
-refusal_write losses words old new MapRefused kind = absurd kind
+refusal_write losses words old new MapRefused kind = tt
 refusal_write losses words old new PlanRefused kind = tt
-refusal_write losses words old new PlanUnfit kind = absurd kind
+refusal_write losses words old new PlanUnfit kind = tt
 refusal_write losses words old new PlanInvalid kind = tt
 refusal_write losses words old new NumberTooLarge kind = tt
 refusal_write losses words old new (InputTooLarge at) kind = absurd kind
@@ -287,9 +287,9 @@ refusal_stops words ProblemRefused files kind = tt
 refusal_stops words EngineRefused files kind = tt
 refusal_stops words NoPipeline files kind = tt
 refusal_stops words TooMany files kind = absurd kind
-refusal_stops words MapRefused files kind = absurd kind
+refusal_stops words MapRefused files kind = tt
 refusal_stops words PlanRefused files kind = tt
-refusal_stops words PlanUnfit files kind = absurd kind
+refusal_stops words PlanUnfit files kind = tt
 refusal_stops words PlanInvalid files kind = tt
 refusal_stops words NumberTooLarge files kind = tt
 refusal_stops words (InputTooLarge at) files kind = absurd kind
@@ -310,9 +310,9 @@ refusal_last words ProblemRefused files kind all = all
 refusal_last words EngineRefused files kind all = all
 refusal_last words NoPipeline files kind all = all
 refusal_last words TooMany files kind all = absurd kind
-refusal_last words MapRefused files kind all = absurd kind
+refusal_last words MapRefused files kind all = all
 refusal_last words PlanRefused files kind all = all
-refusal_last words PlanUnfit files kind all = absurd kind
+refusal_last words PlanUnfit files kind all = all
 refusal_last words PlanInvalid files kind all = all
 refusal_last words NumberTooLarge files kind all = all
 refusal_last words (InputTooLarge at) files kind all = absurd kind
@@ -322,12 +322,20 @@ pub refusal_first : (words : List (List ℕ)) (status : Status) (end : ℕ) (hel
 refusal_first words status end None kind same all = tt
 refusal_first words status end (Some files) kind same all = refusal_last words status files kind (rw same all)
 
-pub write_placed : (command : Option Command) (stop : Stop) → IsWriteStatus 4 6 (stop_status stop) → HasOutputs command → IsPlaced command (stop_status stop)
+compile_output : (command : Option Command) (at : ℕ) → IsCompile command → 4 ≤ at → at ≤ 6 → IsOutput command at
+compile_output None at has first last = has
+compile_output (Some command.Kind) at has first last = has
+compile_output (Some command.Pipeline) at has first last = has
+compile_output (Some (command.Compile limit)) at has first last = (first, last)
+compile_output (Some command.Validate) at has first last = has
+compile_output (Some command.Back) at has first last = absurd has
+
+pub write_placed : (command : Option Command) (stop : Stop) → IsWriteStatus 4 6 (stop_status stop) → IsCompile command → IsPlaced command (stop_status stop)
 write_placed command stop.Usage kind has = absurd kind
 write_placed command stop.Memory kind has = tt
 write_placed command (stop.Missing at) kind has = absurd kind
 write_placed command (stop.ReadFault at) kind has = absurd kind
-write_placed command (stop.WriteFault at) kind has = (has, kind.0, kind.1)
+write_placed command (stop.WriteFault at) kind has = compile_output command at has kind.0 kind.1
 write_placed command stop.NoPipeline kind has = absurd kind
 write_placed command (stop.InputTooLarge at) kind has = absurd kind
 
@@ -439,7 +447,11 @@ written_read faults misses larges words old new (InputTooLarge at) kind = absurd
 pub leaves_ended : (words : List (List ℕ)) (old new : Option Files) (status : Status) (ok : Bool) → Leaves words old new status → Leaves words old new (ended status ok)
 leaves_ended words old new Done true left = left
 leaves_ended words old new Done false left =
-    elim left [ untouched keeps same ↦ Leaves.untouched keeps same | wrote outputs problem has are held ↦ Leaves.wrote outputs problem has are held ]
+    elim left [
+      | untouched keeps same ↦ Leaves.untouched keeps same
+      | wrote outputs problem has are held ↦ Leaves.wrote outputs problem has are held
+      | carried metric text has is held ↦ Leaves.carried metric text has is held
+    ]
 leaves_ended words old new Usage ok left = left
 leaves_ended words old new Memory ok left = left
 leaves_ended words old new (Missing at) ok left = left

@@ -8,19 +8,20 @@ use Rattle.up_kind.specs.Features.{FeatureSet, has}
 use Rattle.up_compiler.specs.declared.id.CompilerId.{CompilerId}
 use Rattle.up_compiler.specs.declared.id.Chain.{Chain}
 use Rattle.up_tree.specs.declared.problem.Parts.{Parts}
-use Rattle.up_check.specs.Passes.{HaveForms}
+use Rattle.up_check.specs.Passes.{Reads}
 use Rattle.up_check.specs.declared.refusal.File.TheVariants as file
 use Rattle.up_pipeline.specs.declared.engine.EngineError.TheVariants as unread
 use Rattle.up_top.specs.declared.command.Command.{Command}
 use Rattle.up_top.specs.declared.command.Command.TheVariants as command
 use Rattle.up_top.specs.declared.answer.Stop.{Stop}
+use Rattle.up_top.specs.declared.whole.Whole.{Whole}
 use Rattle.up_top.specs.declared.answer.Stop.TheVariants as stop
 use Rattle.up_top.specs.declared.answer.Answer.{Answer}
 use Rattle.up_top.specs.declared.answer.Answer.TheVariants as answer
 use Rattle.up_top.specs.Answers.{status_of, stop_status}
 use Rattle.up_top.specs.Words.{command_of}
-use Rattle.up_top.specs.Cause.{IsHeld, IsKind, HasEngine, HasOutputs, HasThird, IsInputStop, IsPlaced, IsWriteStatus, IsRefusal}
-use Rattle.up_top.specs.Inputs.{AreInputs, AreSources, HasChain, HasFeatures, IsChosen, IsEarly, Says, SaysOfHeld, StopsBefore, StopsChoice, StopsRead, Tells}
+use Rattle.up_top.specs.Cause.{IsHeld, IsKind, HasEngine, IsCompile, HasThird, IsInputStop, IsPlaced, IsWriteStatus, IsRefusal}
+use Rattle.up_top.specs.Inputs.{AreFour, AreInputs, AreSources, HasChain, HasFeatures, IsChosen, IsEarly, Says, SaysOfHeld, StopsBefore, StopsChoice, StopsRead, Tells}
 use Rattle.up_top.specs.Run.{CompilesAt}
 
 -- ---- held texts
@@ -40,7 +41,16 @@ pub inputs_held : (words : List (List ℕ)) (domain problem engine : List ℕ) (
 inputs_held words domain problem engine None s e = tt
 inputs_held words domain problem engine (Some files) s e = record { sources = s; holds_third = λ _. e }
 
-pub ruleset held = (sources_read, inputs_held)
+four_held : (words : List (List ℕ)) (domain problem map plan : List ℕ) (held : Option Files) → IfSome held (AreInputs words domain problem map) → IfSome held (IsHeld words 3 map)
+    → IfSome held (IsHeld words 4 plan) → IfSome held (AreFour words domain problem map plan)
+four_held words domain problem map plan None inputs m e = tt
+four_held words domain problem map plan (Some files) inputs m e = record { sources = inputs.sources; holds_map = m; holds_plan = e }
+
+pub four_read : (words : List (List ℕ)) (domain problem map plan : List ℕ) (old mid : Option Files) → mid ≡ old → IfSome old (AreInputs words domain problem map)
+    → IfSome old (IsHeld words 3 map) → IfSome mid (IsHeld words 4 plan) → IfSome old (AreFour words domain problem map plan)
+four_read words domain problem map plan old mid same inputs m e = four_held words domain problem map plan old inputs m (rw same at e)
+
+pub ruleset held = (sources_read, inputs_held, four_read)
 
 -- ---- stops before the writes
 
@@ -53,6 +63,7 @@ read_stops domain problem engine (answer.Unread error) stops = absurd stops
 read_stops domain problem engine (answer.Judged verdict) stops = absurd stops
 read_stops domain problem engine (answer.Unspelled place) stops = absurd stops
 read_stops domain problem engine (answer.TooLarge number) stops = absurd stops
+read_stops domain problem engine (answer.Converted conversion) stops = absurd stops
 read_stops domain problem engine (answer.Stopped stop.Usage) stops = absurd stops
 read_stops domain problem engine (answer.Stopped stop.Memory) stops = record { early = tt; says = tt }
 read_stops domain problem engine (answer.Stopped (stop.Missing at)) stops = absurd stops
@@ -61,45 +72,47 @@ read_stops domain problem engine (answer.Stopped (stop.WriteFault at)) stops = a
 read_stops domain problem engine (answer.Stopped stop.NoPipeline) stops = absurd stops
 read_stops domain problem engine (answer.Stopped (stop.InputTooLarge at)) stops = absurd stops
 
-choice_stops : (domain problem engine : List ℕ) (parts : Parts) (a : Answer) → HaveForms domain problem → StopsChoice engine parts a → StopsBefore domain problem engine a
-choice_stops domain problem engine parts (answer.Features kind) forms stops = absurd stops
-choice_stops domain problem engine parts (answer.Chain chain) forms stops = absurd stops
-choice_stops domain problem engine parts (answer.Actions count) forms stops = absurd stops
-choice_stops domain problem engine parts (answer.Refused file place reason name) forms stops = absurd stops
-choice_stops domain problem engine parts (answer.Unread unread.Memory) forms stops = record { early = tt; says = tt }
-choice_stops domain problem engine parts (answer.Unread unread.Toml) forms stops = record { early = tt; says = record { forms = forms; says = stops } }
-choice_stops domain problem engine parts (answer.Unread (unread.UnknownKey word)) forms stops = record { early = tt; says = record { forms = forms; says = stops } }
-choice_stops domain problem engine parts (answer.Unread (unread.NoKey word)) forms stops = record { early = tt; says = record { forms = forms; says = stops } }
-choice_stops domain problem engine parts (answer.Unread (unread.WrongType word)) forms stops = record { early = tt; says = record { forms = forms; says = stops } }
-choice_stops domain problem engine parts (answer.Unread (unread.UnknownFeature word)) forms stops = record { early = tt; says = record { forms = forms; says = stops } }
-choice_stops domain problem engine parts (answer.Judged verdict) forms stops = absurd stops
-choice_stops domain problem engine parts (answer.Unspelled place) forms stops = absurd stops
-choice_stops domain problem engine parts (answer.TooLarge number) forms stops = absurd stops
-choice_stops domain problem engine parts (answer.Stopped stop.Usage) forms stops = absurd stops
-choice_stops domain problem engine parts (answer.Stopped stop.Memory) forms stops = record { early = tt; says = tt }
-choice_stops domain problem engine parts (answer.Stopped (stop.Missing at)) forms stops = absurd stops
-choice_stops domain problem engine parts (answer.Stopped (stop.ReadFault at)) forms stops = absurd stops
-choice_stops domain problem engine parts (answer.Stopped (stop.WriteFault at)) forms stops = absurd stops
-choice_stops domain problem engine parts (answer.Stopped stop.NoPipeline) forms stops = record { early = tt; says = record { forms = forms; parts = parts; none = stops } }
-choice_stops domain problem engine parts (answer.Stopped (stop.InputTooLarge at)) forms stops = absurd stops
+choice_stops : (domain problem engine : List ℕ) (parts : Parts) (a : Answer) → Reads domain problem parts → StopsChoice engine parts a → StopsBefore domain problem engine a
+choice_stops domain problem engine parts (answer.Features kind) reads stops = absurd stops
+choice_stops domain problem engine parts (answer.Chain chain) reads stops = absurd stops
+choice_stops domain problem engine parts (answer.Actions count) reads stops = absurd stops
+choice_stops domain problem engine parts (answer.Refused file place reason name) reads stops = absurd stops
+choice_stops domain problem engine parts (answer.Unread unread.Memory) reads stops = record { early = tt; says = tt }
+choice_stops domain problem engine parts (answer.Unread unread.Toml) reads stops = record { early = tt; says = record { read = record { parts = parts; reads = reads }; says = stops } }
+choice_stops domain problem engine parts (answer.Unread (unread.UnknownKey word)) reads stops = record { early = tt; says = record { read = record { parts = parts; reads = reads }; says = stops } }
+choice_stops domain problem engine parts (answer.Unread (unread.NoKey word)) reads stops = record { early = tt; says = record { read = record { parts = parts; reads = reads }; says = stops } }
+choice_stops domain problem engine parts (answer.Unread (unread.WrongType word)) reads stops = record { early = tt; says = record { read = record { parts = parts; reads = reads }; says = stops } }
+choice_stops domain problem engine parts (answer.Unread (unread.UnknownFeature word)) reads stops = record { early = tt; says = record { read = record { parts = parts; reads = reads }; says = stops } }
+choice_stops domain problem engine parts (answer.Judged verdict) reads stops = absurd stops
+choice_stops domain problem engine parts (answer.Unspelled place) reads stops = absurd stops
+choice_stops domain problem engine parts (answer.TooLarge number) reads stops = absurd stops
+choice_stops domain problem engine parts (answer.Converted conversion) reads stops = absurd stops
+choice_stops domain problem engine parts (answer.Stopped stop.Usage) reads stops = absurd stops
+choice_stops domain problem engine parts (answer.Stopped stop.Memory) reads stops = record { early = tt; says = tt }
+choice_stops domain problem engine parts (answer.Stopped (stop.Missing at)) reads stops = absurd stops
+choice_stops domain problem engine parts (answer.Stopped (stop.ReadFault at)) reads stops = absurd stops
+choice_stops domain problem engine parts (answer.Stopped (stop.WriteFault at)) reads stops = absurd stops
+choice_stops domain problem engine parts (answer.Stopped stop.NoPipeline) reads stops = record { early = tt; says = record { parts = parts; reads = reads; none = stops } }
+choice_stops domain problem engine parts (answer.Stopped (stop.InputTooLarge at)) reads stops = absurd stops
 
 -- ---- the same of results that are handed on
 
-pub chain_result : (domain problem engine : List ℕ) (parts : Parts) (result : Result Chain Answer) → HaveForms domain problem
+pub chain_result : (domain problem engine : List ℕ) (parts : Parts) (result : Result Chain Answer) → Reads domain problem parts
     → IfOk result (λ chain. IsChosen engine parts chain.stages) → IfOk result (λ chain. HasChain domain problem engine chain.stages)
-chain_result domain problem engine parts (Ok chain) forms chosen = record { forms = forms; parts = parts; chosen = chosen }
-chain_result domain problem engine parts (Err a) forms chosen = tt
+chain_result domain problem engine parts (Ok chain) reads chosen = record { parts = parts; reads = reads; chosen = chosen }
+chain_result domain problem engine parts (Err a) reads chosen = tt
 
-pub stops_result : {T : Type 0} (domain problem engine : List ℕ) (parts : Parts) (result : Result T Answer) → HaveForms domain problem
+pub stops_result : {T : Type 0} (domain problem engine : List ℕ) (parts : Parts) (result : Result T Answer) → Reads domain problem parts
     → IfErr result (StopsChoice engine parts) → IfErr result (StopsBefore domain problem engine)
-stops_result domain problem engine parts (Ok value) forms stops = tt
-stops_result domain problem engine parts (Err a) forms stops = choice_stops domain problem engine parts a forms stops
+stops_result domain problem engine parts (Ok value) reads stops = tt
+stops_result domain problem engine parts (Err a) reads stops = choice_stops domain problem engine parts a reads stops
 
-pub forms_result : {T : Type 0} (domain problem : List ℕ) (result : Result T Answer) → HaveForms domain problem → OnOk result (HaveForms domain problem)
-forms_result domain problem (Ok value) forms = forms
-forms_result domain problem (Err a) forms = tt
+pub reads_result : (domain problem : List ℕ) (parts : Parts) (result : Result Whole Answer) → Reads domain problem parts
+    → IfOk result (λ whole. whole.problem ≡ parts) → IfOk result (λ whole. Reads domain problem whole.problem)
+reads_result domain problem parts (Ok whole) reads same = rw same reads
+reads_result domain problem parts (Err a) reads same = tt
 
-pub ruleset stops = (read_stops, chain_result, stops_result, forms_result)
+pub ruleset stops = (read_stops, chain_result, stops_result, reads_result)
 
 -- the status of a stop before the writes
 pub before_refusal : (domain problem engine : List ℕ) (a : Answer) → StopsBefore domain problem engine a → IsRefusal (status_of a)
@@ -117,6 +130,7 @@ before_refusal domain problem engine (answer.Unread (unread.UnknownFeature word)
 before_refusal domain problem engine (answer.Judged verdict) stops = absurd stops.early
 before_refusal domain problem engine (answer.Unspelled place) stops = absurd stops.early
 before_refusal domain problem engine (answer.TooLarge number) stops = absurd stops.early
+before_refusal domain problem engine (answer.Converted conversion) stops = absurd stops.early
 before_refusal domain problem engine (answer.Stopped stop.Usage) stops = absurd stops.early
 before_refusal domain problem engine (answer.Stopped stop.Memory) stops = tt
 before_refusal domain problem engine (answer.Stopped (stop.Missing at)) stops = absurd stops.early
@@ -150,6 +164,7 @@ no_third (Some command.Kind) kind has = has
 no_third (Some command.Pipeline) kind has = kind
 no_third (Some (command.Compile limit)) kind has = kind
 no_third (Some command.Validate) kind has = kind
+no_third (Some command.Back) kind has = kind
 
 kind_inputs : (words : List (List ℕ)) (domain problem : List ℕ) (files : Files) → IsKind (command_of words) → AreSources words domain problem files
     → AreInputs words domain problem [] files
@@ -166,6 +181,7 @@ says_held words domain problem third files (answer.Unread error) held says = rec
 says_held words domain problem third files (answer.Judged verdict) held says = record { domain = domain; problem = problem; third = third; held = held; says = says }
 says_held words domain problem third files (answer.Unspelled place) held says = record { domain = domain; problem = problem; third = third; held = held; says = says }
 says_held words domain problem third files (answer.TooLarge number) held says = record { domain = domain; problem = problem; third = third; held = held; says = says }
+says_held words domain problem third files (answer.Converted conversion) held says = absurd says
 says_held words domain problem third files (answer.Stopped stop.Usage) held says = tt
 says_held words domain problem third files (answer.Stopped stop.Memory) held says = tt
 says_held words domain problem third files (answer.Stopped (stop.Missing at)) held says = tt
@@ -192,16 +208,16 @@ unread_tells words domain problem (Some files) a kind held stops =
     says_held words domain problem [] files a (kind_inputs words domain problem files kind held) (read_stops domain problem [] a stops).says
 
 pub features_tell : (words : List (List ℕ)) (domain problem : List ℕ) (held : Option Files) (kind : Kind) (parts : Parts) → IsKind (command_of words)
-    → IfSome held (AreSources words domain problem) → HaveForms domain problem → has kind.0 ≡ carries parts
+    → IfSome held (AreSources words domain problem) → Reads domain problem parts → has kind.0 ≡ carries parts
     → IfSome held (Tells words (answer.Features kind))
-features_tell words domain problem None kind parts of held forms features = tt
-features_tell words domain problem (Some files) kind parts of held forms features =
+features_tell words domain problem None kind parts of held reads features = tt
+features_tell words domain problem (Some files) kind parts of held reads features =
     record {
       domain = domain;
       problem = problem;
       third = [];
       held = kind_inputs words domain problem files of held;
-      says = record { forms = forms; parts = parts; features = features };
+      says = record { parts = parts; reads = reads; features = features };
     }
 
 pub chain_tells : (words : List (List ℕ)) (domain problem engine : List ℕ) (held : Option Files) (chain : Chain) → IfSome held (AreInputs words domain problem engine)
@@ -210,43 +226,37 @@ chain_tells words domain problem engine None chain held has = tt
 chain_tells words domain problem engine (Some files) chain held has =
     record { domain = domain; problem = problem; third = engine; held = held; says = has }
 
-pub actions_tell : (words : List (List ℕ)) (domain problem engine : List ℕ) (held : Option Files) (count : ℕ) → IfSome held (AreInputs words domain problem engine)
-    → HaveForms domain problem → IfSome held (Tells words (answer.Actions count))
-actions_tell words domain problem engine None count held forms = tt
-actions_tell words domain problem engine (Some files) count held forms =
-    record { domain = domain; problem = problem; third = engine; held = held; says = forms }
+pub actions_tell : (words : List (List ℕ)) (domain problem engine : List ℕ) (held : Option Files) (parts : Parts)
+    → IfSome held (AreInputs words domain problem engine) → Reads domain problem parts → IfSome held (Tells words (answer.Actions (length parts.actions)))
+actions_tell words domain problem engine None parts held reads = tt
+actions_tell words domain problem engine (Some files) parts held reads =
+    record {
+      domain = domain;
+      problem = problem;
+      third = engine;
+      held = held;
+      says = record { parts = parts; reads = reads; counted = refl };
+    }
 
 -- a stop of the writes
-pub write_tells : (words : List (List ℕ)) (domain problem engine : List ℕ) (held : Option Files) (s : Stop) → IfSome held (AreInputs words domain problem engine)
-    → HaveForms domain problem → IsWriteStatus 4 6 (stop_status s) → IfSome held (Tells words (answer.Stopped s))
-write_tells words domain problem engine None s held forms kind = tt
-write_tells words domain problem engine (Some files) stop.Usage held forms kind = absurd kind
-write_tells words domain problem engine (Some files) stop.Memory held forms kind = tt
-write_tells words domain problem engine (Some files) (stop.Missing at) held forms kind = absurd kind
-write_tells words domain problem engine (Some files) (stop.ReadFault at) held forms kind = absurd kind
-write_tells words domain problem engine (Some files) (stop.WriteFault at) held forms kind = record { domain = domain; problem = problem; third = engine; held = held; says = forms }
-write_tells words domain problem engine (Some files) stop.NoPipeline held forms kind = absurd kind
-write_tells words domain problem engine (Some files) (stop.InputTooLarge at) held forms kind = absurd kind
+pub write_tells : (words : List (List ℕ)) (domain problem engine : List ℕ) (held : Option Files) (s : Stop) (parts : Parts) → IfSome held (AreInputs words domain problem engine)
+    → Reads domain problem parts → IsWriteStatus 4 6 (stop_status s) → IfSome held (Tells words (answer.Stopped s))
+write_tells words domain problem engine None s parts held reads kind = tt
+write_tells words domain problem engine (Some files) stop.Usage parts held reads kind = absurd kind
+write_tells words domain problem engine (Some files) stop.Memory parts held reads kind = tt
+write_tells words domain problem engine (Some files) (stop.Missing at) parts held reads kind = absurd kind
+write_tells words domain problem engine (Some files) (stop.ReadFault at) parts held reads kind = absurd kind
+write_tells words domain problem engine (Some files) (stop.WriteFault at) parts held reads kind = record { domain = domain; problem = problem; third = engine; held = held; says = record { parts = parts; reads = reads } }
+write_tells words domain problem engine (Some files) stop.NoPipeline parts held reads kind = absurd kind
+write_tells words domain problem engine (Some files) (stop.InputTooLarge at) parts held reads kind = absurd kind
 
-has_engine : (command : Option Command) → HasOutputs command → HasEngine command
+has_engine : (command : Option Command) → IsCompile command → HasEngine command
 has_engine None has = has
 has_engine (Some command.Kind) has = has
 has_engine (Some command.Pipeline) has = tt
 has_engine (Some (command.Compile limit)) has = has
 has_engine (Some command.Validate) has = absurd has
-
-has_third : (command : Option Command) → HasOutputs command → HasThird command
-has_third None has = has
-has_third (Some command.Kind) has = has
-has_third (Some command.Pipeline) has = tt
-has_third (Some (command.Compile limit)) has = has
-has_third (Some command.Validate) has = tt
-
--- the engine text is held
-pub outputs_engine : (words : List (List ℕ)) (domain problem engine : List ℕ) (held : Option Files) → HasOutputs (command_of words)
-    → IfSome held (AreInputs words domain problem engine) → IfSome held (IsHeld words 3 engine)
-outputs_engine words domain problem engine None has inputs = tt
-outputs_engine words domain problem engine (Some files) has inputs = inputs.holds_third (has_third (command_of words) has)
+has_engine (Some command.Back) has = absurd has
 
 -- the place of a stop before the writes
 early : (command : Option Command) (a : Answer) → IsEarly a → HasEngine command → IsPlaced command (status_of a)
@@ -264,6 +274,7 @@ early command (answer.Unread (unread.UnknownFeature word)) is has = has
 early command (answer.Judged verdict) is has = absurd is
 early command (answer.Unspelled place) is has = absurd is
 early command (answer.TooLarge number) is has = absurd is
+early command (answer.Converted conversion) is has = absurd is
 early command (answer.Stopped stop.Usage) is has = absurd is
 early command (answer.Stopped stop.Memory) is has = tt
 early command (answer.Stopped (stop.Missing at)) is has = absurd is
@@ -276,7 +287,7 @@ pub early_placed : (command : Option Command) (domain problem engine : List ℕ)
     → IsPlaced command (status_of a)
 early_placed command domain problem engine a stops has = early command a stops.early has
 
-pub outputs_placed : (command : Option Command) (domain problem engine : List ℕ) (a : Answer) → StopsBefore domain problem engine a → HasOutputs command
+pub outputs_placed : (command : Option Command) (domain problem engine : List ℕ) (a : Answer) → StopsBefore domain problem engine a → IsCompile command
     → IsPlaced command (status_of a)
 outputs_placed command domain problem engine a stops has = early command a stops.early (has_engine command has)
 
@@ -291,6 +302,7 @@ refused_compiles words domain problem engine old new (answer.Unread error) stops
 refused_compiles words domain problem engine old new (answer.Judged verdict) stops = tt
 refused_compiles words domain problem engine old new (answer.Unspelled place) stops = tt
 refused_compiles words domain problem engine old new (answer.TooLarge number) stops = tt
+refused_compiles words domain problem engine old new (answer.Converted conversion) stops = tt
 refused_compiles words domain problem engine old new (answer.Stopped s) stops = tt
 
 pub unread_compiles : (words : List (List ℕ)) (domain problem : List ℕ) (old new : Option Files) (a : Answer) → StopsRead domain problem a

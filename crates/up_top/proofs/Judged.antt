@@ -4,7 +4,7 @@ use Rattle.std.specs.Prelude.{IfSome}
 use Rattle.up_store.specs.Outside.{Files}
 use Rattle.up_tree.specs.declared.problem.Parts.{Parts}
 use Rattle.up_tree.specs.declared.problem.Plan.{Plan}
-use Rattle.up_check.specs.Passes.{HaveForms}
+use Rattle.up_check.specs.Passes.{Reads}
 use Rattle.up_check.specs.declared.refusal.File.TheVariants as file
 use Rattle.up_validate.specs.declared.verdict.Verdict.TheVariants as verdict
 use Rattle.plan_text.specs.Spells.{PlanText}
@@ -17,7 +17,7 @@ use Rattle.up_top.specs.declared.status.Status.{Status}
 use Rattle.up_top.specs.declared.status.Status.TheVariants.{Done, Usage, Memory, WriteFault, DomainRefused, ProblemRefused, PlanRefused, PlanInvalid, NumberTooLarge}
 use Rattle.up_top.specs.Answers.{status_of}
 use Rattle.up_top.specs.Words.{command_of}
-use Rattle.up_top.specs.Cause.{ReadCause, WriteCause, StopsAt, StopsFirst, AreReadable, IsPlaced, IsRefusal, HasOutputs, HasPlan, inputs_end}
+use Rattle.up_top.specs.Cause.{ReadCause, WriteCause, StopsAt, StopsFirst, AreReadable, IsPlaced, IsRefusal, HasOutputs, HasPlan, IsValidate, inputs_end}
 use Rattle.up_top.specs.Inputs.{IsOnPlan, IsPlanAnswer, Says, StopsPlan, StopsRead}
 use Rattle.up_top.specs.Run.{CompilesAt, HasPlace, Leaves}
 use Rattle.up_top.specs.Says.{IsOf}
@@ -33,6 +33,7 @@ read_answers domain problem (answer.Unread error) stops = absurd stops
 read_answers domain problem (answer.Judged verdict) stops = absurd stops
 read_answers domain problem (answer.Unspelled place) stops = absurd stops
 read_answers domain problem (answer.TooLarge number) stops = absurd stops
+read_answers domain problem (answer.Converted conversion) stops = absurd stops
 read_answers domain problem (answer.Stopped stop.Usage) stops = absurd stops
 read_answers domain problem (answer.Stopped stop.Memory) stops = tt
 read_answers domain problem (answer.Stopped (stop.Missing at)) stops = absurd stops
@@ -50,6 +51,7 @@ read_says domain problem third (answer.Unread error) stops = absurd stops
 read_says domain problem third (answer.Judged verdict) stops = absurd stops
 read_says domain problem third (answer.Unspelled place) stops = absurd stops
 read_says domain problem third (answer.TooLarge number) stops = absurd stops
+read_says domain problem third (answer.Converted conversion) stops = absurd stops
 read_says domain problem third (answer.Stopped stop.Usage) stops = absurd stops
 read_says domain problem third (answer.Stopped stop.Memory) stops = tt
 read_says domain problem third (answer.Stopped (stop.Missing at)) stops = absurd stops
@@ -67,6 +69,7 @@ plan_answers text (answer.Unread error) stops = absurd stops
 plan_answers text (answer.Judged verdict) stops = absurd stops
 plan_answers text (answer.Unspelled place) stops = tt
 plan_answers text (answer.TooLarge number) stops = absurd stops
+plan_answers text (answer.Converted conversion) stops = absurd stops
 plan_answers text (answer.Stopped stop.Usage) stops = absurd stops
 plan_answers text (answer.Stopped stop.Memory) stops = tt
 plan_answers text (answer.Stopped (stop.Missing at)) stops = absurd stops
@@ -75,22 +78,23 @@ plan_answers text (answer.Stopped (stop.WriteFault at)) stops = absurd stops
 plan_answers text (answer.Stopped stop.NoPipeline) stops = absurd stops
 plan_answers text (answer.Stopped (stop.InputTooLarge at)) stops = absurd stops
 
-pub plan_says : (domain problem text : List ℕ) (a : Answer) → HaveForms domain problem → StopsPlan text a → Says a domain problem text
-plan_says domain problem text (answer.Features kind) forms stops = absurd stops
-plan_says domain problem text (answer.Chain chain) forms stops = absurd stops
-plan_says domain problem text (answer.Actions count) forms stops = absurd stops
-plan_says domain problem text (answer.Refused file place reason name) forms stops = absurd stops
-plan_says domain problem text (answer.Unread error) forms stops = absurd stops
-plan_says domain problem text (answer.Judged verdict) forms stops = absurd stops
-plan_says domain problem text (answer.Unspelled place) forms stops = record { forms = forms; faulty = stops }
-plan_says domain problem text (answer.TooLarge number) forms stops = absurd stops
-plan_says domain problem text (answer.Stopped stop.Usage) forms stops = absurd stops
-plan_says domain problem text (answer.Stopped stop.Memory) forms stops = tt
-plan_says domain problem text (answer.Stopped (stop.Missing at)) forms stops = absurd stops
-plan_says domain problem text (answer.Stopped (stop.ReadFault at)) forms stops = absurd stops
-plan_says domain problem text (answer.Stopped (stop.WriteFault at)) forms stops = absurd stops
-plan_says domain problem text (answer.Stopped stop.NoPipeline) forms stops = absurd stops
-plan_says domain problem text (answer.Stopped (stop.InputTooLarge at)) forms stops = absurd stops
+pub plan_says : (domain problem text : List ℕ) (parts : Parts) (a : Answer) → Reads domain problem parts → StopsPlan text a → Says a domain problem text
+plan_says domain problem text parts (answer.Features kind) reads stops = absurd stops
+plan_says domain problem text parts (answer.Chain chain) reads stops = absurd stops
+plan_says domain problem text parts (answer.Actions count) reads stops = absurd stops
+plan_says domain problem text parts (answer.Refused file place reason name) reads stops = absurd stops
+plan_says domain problem text parts (answer.Unread error) reads stops = absurd stops
+plan_says domain problem text parts (answer.Judged verdict) reads stops = absurd stops
+plan_says domain problem text parts (answer.Unspelled place) reads stops = record { read = record { parts = parts; reads = reads }; faulty = stops }
+plan_says domain problem text parts (answer.TooLarge number) reads stops = absurd stops
+plan_says domain problem text parts (answer.Converted conversion) reads stops = absurd stops
+plan_says domain problem text parts (answer.Stopped stop.Usage) reads stops = absurd stops
+plan_says domain problem text parts (answer.Stopped stop.Memory) reads stops = tt
+plan_says domain problem text parts (answer.Stopped (stop.Missing at)) reads stops = absurd stops
+plan_says domain problem text parts (answer.Stopped (stop.ReadFault at)) reads stops = absurd stops
+plan_says domain problem text parts (answer.Stopped (stop.WriteFault at)) reads stops = absurd stops
+plan_says domain problem text parts (answer.Stopped stop.NoPipeline) reads stops = absurd stops
+plan_says domain problem text parts (answer.Stopped (stop.InputTooLarge at)) reads stops = absurd stops
 
 pub judged_answers : (parts : Parts) (plan : Plan) (a : Answer) → IsOnPlan parts plan a → IsPlanAnswer a
 judged_answers parts plan (answer.Features kind) on = absurd on
@@ -101,6 +105,7 @@ judged_answers parts plan (answer.Unread error) on = absurd on
 judged_answers parts plan (answer.Judged verdict) on = tt
 judged_answers parts plan (answer.Unspelled place) on = absurd on
 judged_answers parts plan (answer.TooLarge number) on = tt
+judged_answers parts plan (answer.Converted conversion) on = absurd on
 judged_answers parts plan (answer.Stopped stop.Usage) on = absurd on
 judged_answers parts plan (answer.Stopped stop.Memory) on = tt
 judged_answers parts plan (answer.Stopped (stop.Missing at)) on = absurd on
@@ -109,27 +114,28 @@ judged_answers parts plan (answer.Stopped (stop.WriteFault at)) on = absurd on
 judged_answers parts plan (answer.Stopped stop.NoPipeline) on = absurd on
 judged_answers parts plan (answer.Stopped (stop.InputTooLarge at)) on = absurd on
 
-pub judged_says : (domain problem text : List ℕ) (parts : Parts) (plan : Plan) (a : Answer) → HaveForms domain problem → PlanText text plan → IsOnPlan parts plan a
+pub judged_says : (domain problem text : List ℕ) (parts : Parts) (plan : Plan) (a : Answer) → Reads domain problem parts → PlanText text plan → IsOnPlan parts plan a
     → Says a domain problem text
-judged_says domain problem text parts plan (answer.Features kind) forms spelled on = absurd on
-judged_says domain problem text parts plan (answer.Chain chain) forms spelled on = absurd on
-judged_says domain problem text parts plan (answer.Actions count) forms spelled on = absurd on
-judged_says domain problem text parts plan (answer.Refused file place reason name) forms spelled on = absurd on
-judged_says domain problem text parts plan (answer.Unread error) forms spelled on = absurd on
-judged_says domain problem text parts plan (answer.Judged verdict) forms spelled on = record { forms = forms; parts = parts; plan = plan; spelled = spelled; holds = on }
-judged_says domain problem text parts plan (answer.Unspelled place) forms spelled on = absurd on
-judged_says domain problem text parts plan (answer.TooLarge number) forms spelled on = record { forms = forms; parts = parts; plan = plan; spelled = spelled; holds = on }
-judged_says domain problem text parts plan (answer.Stopped stop.Usage) forms spelled on = absurd on
-judged_says domain problem text parts plan (answer.Stopped stop.Memory) forms spelled on = tt
-judged_says domain problem text parts plan (answer.Stopped (stop.Missing at)) forms spelled on = absurd on
-judged_says domain problem text parts plan (answer.Stopped (stop.ReadFault at)) forms spelled on = absurd on
-judged_says domain problem text parts plan (answer.Stopped (stop.WriteFault at)) forms spelled on = absurd on
-judged_says domain problem text parts plan (answer.Stopped stop.NoPipeline) forms spelled on = absurd on
-judged_says domain problem text parts plan (answer.Stopped (stop.InputTooLarge at)) forms spelled on = absurd on
+judged_says domain problem text parts plan (answer.Features kind) reads spelled on = absurd on
+judged_says domain problem text parts plan (answer.Chain chain) reads spelled on = absurd on
+judged_says domain problem text parts plan (answer.Actions count) reads spelled on = absurd on
+judged_says domain problem text parts plan (answer.Refused file place reason name) reads spelled on = absurd on
+judged_says domain problem text parts plan (answer.Unread error) reads spelled on = absurd on
+judged_says domain problem text parts plan (answer.Judged verdict) reads spelled on = record { parts = parts; reads = reads; plan = plan; spelled = spelled; holds = on }
+judged_says domain problem text parts plan (answer.Unspelled place) reads spelled on = absurd on
+judged_says domain problem text parts plan (answer.TooLarge number) reads spelled on = record { parts = parts; reads = reads; plan = plan; spelled = spelled; holds = on }
+judged_says domain problem text parts plan (answer.Converted conversion) reads spelled on = absurd on
+judged_says domain problem text parts plan (answer.Stopped stop.Usage) reads spelled on = absurd on
+judged_says domain problem text parts plan (answer.Stopped stop.Memory) reads spelled on = tt
+judged_says domain problem text parts plan (answer.Stopped (stop.Missing at)) reads spelled on = absurd on
+judged_says domain problem text parts plan (answer.Stopped (stop.ReadFault at)) reads spelled on = absurd on
+judged_says domain problem text parts plan (answer.Stopped (stop.WriteFault at)) reads spelled on = absurd on
+judged_says domain problem text parts plan (answer.Stopped stop.NoPipeline) reads spelled on = absurd on
+judged_says domain problem text parts plan (answer.Stopped (stop.InputTooLarge at)) reads spelled on = absurd on
 
 pub ruleset on_plan = (read_answers, read_says, plan_answers, plan_says, judged_answers, judged_says)
 
-pub judged_of : (command : Option Command) (a : Answer) → IsPlanAnswer a → HasPlan command → IsOf command a
+pub judged_of : (command : Option Command) (a : Answer) → IsPlanAnswer a → IsValidate command → IsOf command a
 judged_of command (answer.Features kind) is plan = absurd is
 judged_of command (answer.Chain chain) is plan = absurd is
 judged_of command (answer.Actions count) is plan = absurd is
@@ -138,6 +144,7 @@ judged_of command (answer.Unread error) is plan = absurd is
 judged_of command (answer.Judged verdict) is plan = plan
 judged_of command (answer.Unspelled place) is plan = plan
 judged_of command (answer.TooLarge number) is plan = plan
+judged_of command (answer.Converted conversion) is plan = absurd is
 judged_of command (answer.Stopped stop.Usage) is plan = absurd is
 judged_of command (answer.Stopped stop.Memory) is plan = tt
 judged_of command (answer.Stopped (stop.Missing at)) is plan = absurd is
@@ -155,6 +162,7 @@ judged_compiles words old new (answer.Unread error) is = absurd is
 judged_compiles words old new (answer.Judged verdict) is = tt
 judged_compiles words old new (answer.Unspelled place) is = tt
 judged_compiles words old new (answer.TooLarge number) is = tt
+judged_compiles words old new (answer.Converted conversion) is = absurd is
 judged_compiles words old new (answer.Stopped stop.Usage) is = absurd is
 judged_compiles words old new (answer.Stopped stop.Memory) is = tt
 judged_compiles words old new (answer.Stopped (stop.Missing at)) is = absurd is
@@ -163,7 +171,15 @@ judged_compiles words old new (answer.Stopped (stop.WriteFault at)) is = absurd 
 judged_compiles words old new (answer.Stopped stop.NoPipeline) is = absurd is
 judged_compiles words old new (answer.Stopped (stop.InputTooLarge at)) is = absurd is
 
-pub judged_placed : (command : Option Command) (a : Answer) → IsPlanAnswer a → HasPlan command → IsPlaced command (status_of a)
+reads_plan : (command : Option Command) → IsValidate command → HasPlan command
+reads_plan None plan = plan
+reads_plan (Some command.Kind) plan = plan
+reads_plan (Some command.Pipeline) plan = plan
+reads_plan (Some (command.Compile limit)) plan = plan
+reads_plan (Some command.Validate) plan = tt
+reads_plan (Some command.Back) plan = tt
+
+pub judged_placed : (command : Option Command) (a : Answer) → IsPlanAnswer a → IsValidate command → IsPlaced command (status_of a)
 judged_placed command (answer.Features kind) is plan = absurd is
 judged_placed command (answer.Chain chain) is plan = absurd is
 judged_placed command (answer.Actions count) is plan = absurd is
@@ -171,11 +187,12 @@ judged_placed command (answer.Refused file.Domain place reason name) is plan = t
 judged_placed command (answer.Refused file.Problem place reason name) is plan = tt
 judged_placed command (answer.Unread error) is plan = absurd is
 judged_placed command (answer.Judged (verdict.Valid metric)) is plan = tt
-judged_placed command (answer.Judged (verdict.BadStep number reason)) is plan = plan
-judged_placed command (answer.Judged verdict.GoalOpen) is plan = plan
-judged_placed command (answer.Judged (verdict.Broken number)) is plan = plan
-judged_placed command (answer.Unspelled place) is plan = plan
-judged_placed command (answer.TooLarge number) is plan = plan
+judged_placed command (answer.Judged (verdict.BadStep number reason)) is plan = reads_plan command plan
+judged_placed command (answer.Judged verdict.GoalOpen) is plan = reads_plan command plan
+judged_placed command (answer.Judged (verdict.Broken number)) is plan = reads_plan command plan
+judged_placed command (answer.Unspelled place) is plan = reads_plan command plan
+judged_placed command (answer.TooLarge number) is plan = reads_plan command plan
+judged_placed command (answer.Converted conversion) is plan = absurd is
 judged_placed command (answer.Stopped stop.Usage) is plan = absurd is
 judged_placed command (answer.Stopped stop.Memory) is plan = tt
 judged_placed command (answer.Stopped (stop.Missing at)) is plan = absurd is
@@ -198,6 +215,7 @@ by_status Holds (answer.Judged verdict.GoalOpen) is done refused = refused PlanI
 by_status Holds (answer.Judged (verdict.Broken number)) is done refused = refused PlanInvalid tt
 by_status Holds (answer.Unspelled place) is done refused = refused PlanRefused tt
 by_status Holds (answer.TooLarge number) is done refused = refused NumberTooLarge tt
+by_status Holds (answer.Converted conversion) is done refused = absurd is
 by_status Holds (answer.Stopped stop.Usage) is done refused = absurd is
 by_status Holds (answer.Stopped stop.Memory) is done refused = refused Memory tt
 by_status Holds (answer.Stopped (stop.Missing at)) is done refused = absurd is
@@ -206,12 +224,13 @@ by_status Holds (answer.Stopped (stop.WriteFault at)) is done refused = absurd i
 by_status Holds (answer.Stopped stop.NoPipeline) is done refused = absurd is
 by_status Holds (answer.Stopped (stop.InputTooLarge at)) is done refused = absurd is
 
-no_outputs : (command : Option Command) → HasPlan command → ¬ HasOutputs command
+no_outputs : (command : Option Command) → IsValidate command → ¬ HasOutputs command
 no_outputs None plan = λ has. has
 no_outputs (Some command.Kind) plan = λ has. has
 no_outputs (Some command.Pipeline) plan = λ has. has
 no_outputs (Some (command.Compile limit)) plan = absurd plan
 no_outputs (Some command.Validate) plan = λ has. has
+no_outputs (Some command.Back) plan = absurd plan
 
 done_told : (words : List (List ℕ)) (held : Option Files) → IfSome held (StopsAt words Done)
 done_told words None = tt
@@ -226,7 +245,7 @@ judged_fit a is = by_status (λ status. ¬ (status ≡ Usage)) a is (λ same. cc
 pub judged_put : (a : Answer) → IsPlanAnswer a → ¬ (status_of a ≡ WriteFault None)
 judged_put a is = by_status (λ status. ¬ (status ≡ WriteFault None)) a is (λ same. cc) refusal_put
 
-pub judged_held : (words : List (List ℕ)) (old new : Option Files) (a : Answer) → IsPlanAnswer a → HasPlan (command_of words) → new ≡ old
+pub judged_held : (words : List (List ℕ)) (old new : Option Files) (a : Answer) → IsPlanAnswer a → IsValidate (command_of words) → new ≡ old
     → Leaves words old new (status_of a)
 judged_held words old new a is plan same =
     by_status (Leaves words old new) a is (Leaves.untouched (no_outputs (command_of words) plan) same) (λ status kind. refusal_held words old new status kind same)

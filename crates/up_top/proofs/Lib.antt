@@ -1,4 +1,5 @@
 pub mod Answered
+pub mod Carrying
 pub mod Chosen
 pub mod Complete
 pub mod Ends

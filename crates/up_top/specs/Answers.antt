@@ -16,12 +16,14 @@ use Rattle.up_validate.specs.declared.verdict.Verdict.{Verdict}
 use Rattle.up_validate.specs.declared.verdict.Verdict.TheVariants as verdict
 use Rattle.up_top.specs.declared.answer.Stop.{Stop}
 use Rattle.up_top.specs.declared.answer.Stop.TheVariants as stop
+use Rattle.up_top.specs.declared.answer.Conversion.{Conversion}
+use Rattle.up_top.specs.declared.answer.Conversion.TheVariants as conversion
 use Rattle.up_top.specs.declared.answer.Answer.{Answer}
 use Rattle.up_top.specs.declared.answer.Answer.TheVariants as answer
 use Rattle.up_top.specs.declared.status.Status.{Status}
-use Rattle.up_top.specs.declared.status.Status.TheVariants.{Done, Usage, Memory, Missing, ReadFault, WriteFault, DomainRefused, ProblemRefused, EngineRefused, NoPipeline, PlanRefused, PlanInvalid, NumberTooLarge, InputTooLarge}
+use Rattle.up_top.specs.declared.status.Status.TheVariants.{Done, Usage, Memory, Missing, ReadFault, WriteFault, DomainRefused, ProblemRefused, EngineRefused, NoPipeline, MapRefused, PlanRefused, PlanUnfit, PlanInvalid, NumberTooLarge, InputTooLarge}
 use Rattle.up_top.specs.Words.{word_at}
-use Rattle.up_top.specs.Verdicts.{verdict_text}
+use Rattle.up_top.specs.Verdicts.{numbered_text, verdict_text}
 
 -- ---- statuses
 
@@ -48,6 +50,14 @@ verdict_status (verdict.BadStep number reason) = PlanInvalid
 verdict_status verdict.GoalOpen = PlanInvalid
 verdict_status (verdict.Broken number) = PlanInvalid
 
+abbrev pub conversion_status : Conversion → Status
+conversion_status (conversion.BadLine number) = MapRefused
+conversion_status (conversion.SecondLine number) = MapRefused
+conversion_status (conversion.Unspelled place) = PlanRefused
+conversion_status (conversion.Unfit number) = PlanUnfit
+conversion_status (conversion.Judged verdict) = verdict_status verdict
+conversion_status (conversion.TooLarge number) = NumberTooLarge
+
 abbrev pub status_of : Answer → Status
 status_of (answer.Features kind) = Done
 status_of (answer.Chain chain) = Done
@@ -57,6 +67,7 @@ status_of (answer.Unread error) = engine_status error
 status_of (answer.Judged verdict) = verdict_status verdict
 status_of (answer.Unspelled place) = PlanRefused
 status_of (answer.TooLarge number) = NumberTooLarge
+status_of (answer.Converted conversion) = conversion_status conversion
 status_of (answer.Stopped stop) = stop_status stop
 
 -- ---- texts
@@ -119,6 +130,17 @@ unspelled_text place = place_behind (codes "plan refused ") place
 abbrev pub too_large_text : ℕ → List ℕ
 too_large_text number = codes "number too large step " ++ decimal number ++ codes "\n"
 
+abbrev pub unfit_text : ℕ → List ℕ
+unfit_text number = codes "plan unfit step " ++ decimal number ++ codes "\n"
+
+abbrev pub conversion_text : Conversion → List ℕ
+conversion_text (conversion.BadLine number) = numbered_text (codes "map refused line ") number (codes "bad")
+conversion_text (conversion.SecondLine number) = numbered_text (codes "map refused line ") number (codes "double")
+conversion_text (conversion.Unspelled place) = unspelled_text place
+conversion_text (conversion.Unfit number) = unfit_text number
+conversion_text (conversion.Judged verdict) = verdict_text verdict
+conversion_text (conversion.TooLarge number) = too_large_text number
+
 abbrev pub stop_text : List (List ℕ) → Stop → List ℕ
 stop_text words stop.Usage = codes "usage\n"
 stop_text words stop.Memory = codes "out of memory\n"
@@ -137,4 +159,5 @@ answer_text words (answer.Unread error) = engine_text error
 answer_text words (answer.Judged verdict) = verdict_text verdict
 answer_text words (answer.Unspelled place) = unspelled_text place
 answer_text words (answer.TooLarge number) = too_large_text number
+answer_text words (answer.Converted conversion) = conversion_text conversion
 answer_text words (answer.Stopped stop) = stop_text words stop

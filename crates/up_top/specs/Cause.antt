@@ -2,14 +2,15 @@
 use Rattle.std.specs.Prelude.{◌≡◌, ℕ, zero, suc, ◌≤◌, ◌<◌, List, length, Option, None, Some, IsSomeAnd, ⊤}
 use Rattle.up_store.specs.Outside.{Files, Rose, input_limit}
 use Rattle.up_top.specs.declared.command.Command.{Command}
-use Rattle.up_top.specs.declared.command.Command.TheVariants.{Kind, Pipeline, Compile, Validate}
+use Rattle.up_top.specs.declared.command.Command.TheVariants.{Kind, Pipeline, Compile, Validate, Back}
 use Rattle.up_top.specs.declared.status.Status.{Status}
-use Rattle.up_top.specs.declared.status.Status.TheVariants.{Done, Usage, Memory, Missing, ReadFault, WriteFault, DomainRefused, ProblemRefused, EngineRefused, NoPipeline, PlanRefused, PlanInvalid, NumberTooLarge, InputTooLarge}
+use Rattle.up_top.specs.declared.status.Status.TheVariants.{Done, Usage, Memory, Missing, ReadFault, WriteFault, DomainRefused, ProblemRefused, EngineRefused, NoPipeline, MapRefused, PlanRefused, PlanUnfit, PlanInvalid, NumberTooLarge, InputTooLarge}
 use Rattle.up_top.specs.Words.{word_at, command_of}
 
 -- the place behind the inputs of a command; the first input stands at place 1
 abbrev pub inputs_end : Option Command → ℕ
 inputs_end (Some Kind) = 3
+inputs_end (Some Back) = 5
 inputs_end command = 4
 
 -- the text of the input at a place, which is held and not too long
@@ -90,7 +91,9 @@ IsRefusal DomainRefused = ⊤
 IsRefusal ProblemRefused = ⊤
 IsRefusal EngineRefused = ⊤
 IsRefusal NoPipeline = ⊤
+IsRefusal MapRefused = ⊤
 IsRefusal PlanRefused = ⊤
+IsRefusal PlanUnfit = ⊤
 IsRefusal PlanInvalid = ⊤
 IsRefusal NumberTooLarge = ⊤
 IsRefusal status = ⊥
@@ -115,10 +118,29 @@ abbrev pub IsPipeline : Option Command → Type 0
 IsPipeline (Some Pipeline) = ⊤
 IsPipeline command = ⊥
 
--- an output is written by `compile` alone
+abbrev pub IsCompile : Option Command → Type 0
+IsCompile (Some (Compile limit)) = ⊤
+IsCompile command = ⊥
+
+abbrev pub IsValidate : Option Command → Type 0
+IsValidate (Some Validate) = ⊤
+IsValidate command = ⊥
+
+abbrev pub IsBack : Option Command → Type 0
+IsBack (Some Back) = ⊤
+IsBack command = ⊥
+
+-- the commands that write outputs
 abbrev pub HasOutputs : Option Command → Type 0
 HasOutputs (Some (Compile limit)) = ⊤
+HasOutputs (Some Back) = ⊤
 HasOutputs command = ⊥
+
+-- an output of the command stands at a place
+abbrev pub IsOutput : Option Command → ℕ → Type 0
+IsOutput (Some (Compile limit)) at = (4 ≤ at) × (at ≤ 6)
+IsOutput (Some Back) at = at ≡ 5
+IsOutput command at = ⊥
 
 -- the commands that read an engine
 abbrev pub HasEngine : Option Command → Type 0
@@ -126,16 +148,18 @@ HasEngine (Some Pipeline) = ⊤
 HasEngine (Some (Compile limit)) = ⊤
 HasEngine command = ⊥
 
--- a plan is read by `validate` alone
+-- the commands that read a plan
 abbrev pub HasPlan : Option Command → Type 0
 HasPlan (Some Validate) = ⊤
+HasPlan (Some Back) = ⊤
 HasPlan command = ⊥
 
--- a third text, an engine's or a plan's, is read by all commands but `kind`
+-- a third text, an engine's, a plan's or a map's, is read by all commands but `kind`
 abbrev pub HasThird : Option Command → Type 0
 HasThird (Some Pipeline) = ⊤
 HasThird (Some (Compile limit)) = ⊤
 HasThird (Some Validate) = ⊤
+HasThird (Some Back) = ⊤
 HasThird command = ⊥
 
 -- the statuses at which a command over texts that can be read ends, where nothing fails
@@ -146,7 +170,9 @@ IsOutcome command DomainRefused = ⊤
 IsOutcome command ProblemRefused = ⊤
 IsOutcome command EngineRefused = HasEngine command
 IsOutcome command NoPipeline = HasEngine command
+IsOutcome command MapRefused = IsBack command
 IsOutcome command PlanRefused = HasPlan command
+IsOutcome command PlanUnfit = IsBack command
 IsOutcome command PlanInvalid = HasPlan command
 IsOutcome command NumberTooLarge = HasPlan command
 IsOutcome command status = ⊥
@@ -160,24 +186,30 @@ IsPlaced command (Missing at) = (1 ≤ at) × (at < inputs_end command)
 IsPlaced command (ReadFault at) = (1 ≤ at) × (at < inputs_end command)
 IsPlaced command (InputTooLarge at) = (1 ≤ at) × (at < inputs_end command)
 IsPlaced command (WriteFault None) = ⊤
-IsPlaced command (WriteFault (Some at)) = HasOutputs command × (4 ≤ at) × (at ≤ 6)
+IsPlaced command (WriteFault (Some at)) = IsOutput command at
 IsPlaced command DomainRefused = ⊤
 IsPlaced command ProblemRefused = ⊤
 IsPlaced command EngineRefused = HasEngine command
 IsPlaced command NoPipeline = HasEngine command
+IsPlaced command MapRefused = IsBack command
 IsPlaced command PlanRefused = HasPlan command
+IsPlaced command PlanUnfit = IsBack command
 IsPlaced command PlanInvalid = HasPlan command
 IsPlaced command NumberTooLarge = HasPlan command
 IsPlaced command status = ⊥
 
--- the count of no name rose, from the first place to the last
-abbrev pub NoneRose : {S : Type 0} → (S → List ℕ → ℕ) → List (List ℕ) → S → S → ℕ → ℕ → Type 0
-NoneRose count words old new first last =
-    (at : ℕ) → first ≤ at → at ≤ last → ¬ RoseAt count old new (word_at words at)
+-- the count of no input's name rose
+abbrev pub NoInputRose : {S : Type 0} → (S → List ℕ → ℕ) → List (List ℕ) → S → S → Type 0
+NoInputRose count words old new =
+    (at : ℕ) → 1 ≤ at → at < inputs_end (command_of words) → ¬ RoseAt count old new (word_at words at)
+
+-- the count of no output's name rose
+abbrev pub NoOutputRose : {S : Type 0} → (S → List ℕ → ℕ) → List (List ℕ) → S → S → Type 0
+NoOutputRose count words old new = (at : ℕ) → IsOutput (command_of words) at → ¬ RoseAt count old new (word_at words at)
 
 -- the inputs can be read, and neither a read, a write nor a put failed
 pub record AllWell {S : Type 0} (faults losses : S → List ℕ → ℕ) (words : List (List ℕ)) (old new : S) (before now : ℕ) (files : Files) : Type 0 where
   pub readable : AreReadable words (inputs_end (command_of words)) files
-  pub reads : NoneRose faults words old new 1 3
-  pub writes : NoneRose losses words old new 4 6
+  pub reads : NoInputRose faults words old new
+  pub writes : NoOutputRose losses words old new
   pub puts : ¬ Rose before now

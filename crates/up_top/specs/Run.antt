@@ -1,21 +1,29 @@
 -- What a run leaves in the store.
 use Rattle.std.specs.Prelude.{◌≡◌, ◌⊎◌, ◌<◌, ⊤, ℕ, length, List, [], ◌∷◌, Option, None, Some, IfSome, Result, Ok, Err}
 use Rattle.up_store.specs.Outside.{Files, held_with, written_with, KeepsOrCuts}
+use Rattle.up_eval.specs.declared.metric.Value.{Value}
+use Rattle.up_tree.specs.declared.problem.Plan.{Plan}
+use Rattle.up_validate.specs.declared.verdict.Verdict.TheVariants as verdict
+use Rattle.up_validate.specs.Verdicts.{IsVerdict}
+use Rattle.plan_text.specs.Texts.{plan_text}
 use Rattle.up_compiler.specs.Identity.{identity_entries}
 use Rattle.up_tree.specs.declared.problem.Parts.{Parts}
+use Rattle.up_check.specs.Passes.{Reads}
 use Rattle.up_map.specs.declared.map.Map.{Map}
 use Rattle.up_map.specs.Texts.{map_text}
 use Rattle.pddl_write.specs.Files.{domain_text, problem_text}
 use Rattle.up_top.specs.declared.command.Command.{Command}
 use Rattle.up_top.specs.declared.answer.Answer.{Answer}
 use Rattle.up_top.specs.declared.answer.Answer.TheVariants as answer
+use Rattle.up_top.specs.declared.answer.Conversion.TheVariants as conversion
 use Rattle.up_top.specs.declared.answer.Stop.{Stop}
 use Rattle.up_top.specs.declared.status.Status.{Status}
 use Rattle.up_top.specs.declared.status.Status.TheVariants.{Done, Memory, Missing, ReadFault, WriteFault, InputTooLarge}
 use Rattle.up_top.specs.Words.{word_at, command_of}
 use Rattle.up_top.specs.Answers.{stop_status, actions_text}
-use Rattle.up_top.specs.Cause.{HasOutputs, IsHeld}
-use Rattle.up_top.specs.Inputs.{IsChosen}
+use Rattle.up_top.specs.Verdicts.{verdict_text}
+use Rattle.up_top.specs.Cause.{IsCompile, IsBack, HasOutputs}
+use Rattle.up_top.specs.Inputs.{AreFour, AreInputs, IsChosen, OfMade}
 
 -- a text under the output name at a place of the words
 pub record Output : Type 0 where
@@ -60,10 +68,13 @@ pub record IsWhole (engine : List ℕ) (problem : Parts) (map : Map) : Type 0 wh
   pub chosen : IsChosen engine problem map.stages.stages
   pub kept : map.back ≡ identity_entries problem.actions
 
--- The texts of a problem and its map, whose chain is chosen for the held engine text.
+-- The texts of the problem that the held texts read as, and of its map, whose chain is chosen for the held engine text.
 pub record AreOutputs (words : List (List ℕ)) (held : Option Files) (problem : Parts) (outputs : List Output) : Type 0 where
+  pub domain : List ℕ
+  pub source : List ℕ
   pub engine : List ℕ
-  pub holds : IfSome held (IsHeld words 3 engine)
+  pub holds : IfSome held (AreInputs words domain source engine)
+  pub reads : Reads domain source problem
   pub map : Map
   pub whole : IsWhole engine problem map
   pub texts : outputs ≡ outputs_of (domain_text problem) (problem_text problem) (map_text map)
@@ -80,13 +91,36 @@ KeepsHeld command Done = ¬ HasOutputs command
 KeepsHeld command (WriteFault at) = ¬ HasOutputs command
 KeepsHeld command status = ⊤
 
--- what a run leaves: all as it was, or what comes of the writes of a problem and its map
+-- the plan is valid for the problem with this metric, and this is its text
+pub record IsWritten (metric : Value) (text : List ℕ) (parts : Parts) (made : Plan) : Type 0 where
+  pub valid : IsVerdict parts made (verdict.Valid metric)
+  pub written : text ≡ plan_text made
+
+-- The text of the plan that the held map makes of the held plan, and that is valid for the problem of the held texts.
+pub record IsCarried (words : List (List ℕ)) (held : Option Files) (metric : Value) (text : List ℕ) : Type 0 where
+  pub domain : List ℕ
+  pub problem : List ℕ
+  pub map : List ℕ
+  pub plan : List ℕ
+  pub holds : IfSome held (AreFour words domain problem map plan)
+  pub of : OfMade domain problem map plan (IsWritten metric text)
+
+-- what is held after each status of `back`, where this is the text of its output
+abbrev pub HeldBack : List (List ℕ) → List ℕ → Option Files → Option Files → Status → Type 0
+HeldBack words text old new Done = new ≡ held_with (word_at words 5) text old
+HeldBack words text old new (WriteFault None) = new ≡ held_with (word_at words 5) text old
+HeldBack words text old new (WriteFault (Some at)) = KeepsOrCuts (word_at words 5) text old new
+HeldBack words text old new status = new ≡ old
+
+-- what a run leaves: all as it was, or what comes of the writes of a problem and its map, or of a converted plan
 pub data Leaves (words : List (List ℕ)) (old new : Option Files) (status : Status) : Type 0 where
   untouched : KeepsHeld (command_of words) status → new ≡ old → Leaves words old new status
-  wrote : (outputs : List Output) (problem : Parts) → HasOutputs (command_of words) → AreOutputs words old problem outputs
+  wrote : (outputs : List Output) (problem : Parts) → IsCompile (command_of words) → AreOutputs words old problem outputs
       → HeldAfter words outputs old new status → Leaves words old new status
+  carried : (metric : Value) (text : List ℕ) → IsBack (command_of words) → IsCarried words old metric text
+      → HeldBack words text old new status → Leaves words old new status
 
--- A compile that is done: the texts of one problem and its map are held, and this is the number of its actions.
+-- A compile that is done: the texts of the problem and its map are held, and this is the number of its actions.
 pub record Compiles (words : List (List ℕ)) (old new : Option Files) (count : ℕ) : Type 0 where
   pub problem : Parts
   pub outputs : List Output
@@ -104,6 +138,23 @@ pub record CompilesDone (words : List (List ℕ)) (old new : Option Files) (befo
   pub count : ℕ
   pub compiles : Compiles words old new count
   pub put : now ≡ written_with (actions_text count) before
+
+-- A `back` that is done: the text of the converted plan is held, which is valid with this metric.
+pub record Carries (words : List (List ℕ)) (old new : Option Files) (metric : Value) : Type 0 where
+  pub text : List ℕ
+  pub is : IsCarried words old metric text
+  pub held : new ≡ held_with (word_at words 5) text old
+
+-- the same of an answer that tells that a converted plan is valid
+abbrev pub CarriesAt : List (List ℕ) → Option Files → Option Files → Answer → Type 0
+CarriesAt words old new (answer.Converted (conversion.Judged (verdict.Valid metric))) = Carries words old new metric
+CarriesAt words old new answer = ⊤
+
+-- What a `back` that is done holds and puts.
+pub record CarriesDone (words : List (List ℕ)) (old new : Option Files) (before now : Option (List ℕ)) : Type 0 where
+  pub metric : Value
+  pub carries : Carries words old new metric
+  pub put : now ≡ written_with (verdict_text (verdict.Valid metric)) before
 
 -- a name stands at each place that a status carries
 abbrev pub HasPlace : List (List ℕ) → Status → Type 0

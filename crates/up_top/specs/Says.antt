@@ -7,7 +7,7 @@ use Rattle.up_top.specs.declared.answer.Answer.TheVariants as answer
 use Rattle.up_top.specs.declared.status.Status.{Status}
 use Rattle.up_top.specs.declared.status.Status.TheVariants.{Done, WriteFault}
 use Rattle.up_top.specs.Words.{command_of}
-use Rattle.up_top.specs.Cause.{IsKind, IsPipeline, HasOutputs, HasPlan}
+use Rattle.up_top.specs.Cause.{IsKind, IsPipeline, IsCompile, IsValidate, IsBack}
 use Rattle.up_top.specs.Answers.{answer_text, status_of}
 use Rattle.up_top.specs.Inputs.{Tells}
 
@@ -15,10 +15,11 @@ use Rattle.up_top.specs.Inputs.{Tells}
 abbrev pub IsOf : Option Command → Answer → Type 0
 IsOf command (answer.Features kind) = IsKind command
 IsOf command (answer.Chain chain) = IsPipeline command
-IsOf command (answer.Actions count) = HasOutputs command
-IsOf command (answer.Judged verdict) = HasPlan command
-IsOf command (answer.Unspelled place) = HasPlan command
-IsOf command (answer.TooLarge number) = HasPlan command
+IsOf command (answer.Actions count) = IsCompile command
+IsOf command (answer.Judged verdict) = IsValidate command
+IsOf command (answer.Unspelled place) = IsValidate command
+IsOf command (answer.TooLarge number) = IsValidate command
+IsOf command (answer.Converted conversion) = IsBack command
 IsOf command answer = ⊤
 
 -- the status after the put of an answer's text

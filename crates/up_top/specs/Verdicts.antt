@@ -39,12 +39,12 @@ metric_text value.None = []
 metric_text value.Undefined = codes "metric undefined\n"
 metric_text (value.Number n) = codes "metric " ++ (fraction_text n ++ codes "\n")
 
--- a front, a step's number and a word
-abbrev pub bad_step_text : List ℕ → ℕ → List ℕ → List ℕ
-bad_step_text front number word = (front ++ decimal number) ++ (codes " " ++ word ++ codes "\n")
+-- a front, a number and a word
+abbrev pub numbered_text : List ℕ → ℕ → List ℕ → List ℕ
+numbered_text front number word = (front ++ decimal number) ++ (codes " " ++ word ++ codes "\n")
 
 abbrev pub verdict_text : Verdict → List ℕ
 verdict_text (verdict.Valid metric) = codes "valid\n" ++ metric_text metric
-verdict_text (verdict.BadStep number reason) = bad_step_text (codes "plan invalid step ") number (fault_word reason)
+verdict_text (verdict.BadStep number reason) = numbered_text (codes "plan invalid step ") number (fault_word reason)
 verdict_text verdict.GoalOpen = codes "plan invalid goal\n"
 verdict_text (verdict.Broken number) = codes "plan invalid constraint " ++ decimal number ++ codes "\n"

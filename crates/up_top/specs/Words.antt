@@ -2,7 +2,7 @@
 use Rattle.std.specs.Prelude.{⊤, ◌≤◌, ℕ, ◌+◌, ◌*◌, ◌-◌, Bool, ◌&&◌, not, ◌==◌, nat_le, if◌then◌else◌, List, [], ◌∷◌, length, Option, None, Some, codes, bytes_eq, slice_get, slice_range, unwrap_or}
 use Rattle.std.specs.List.{list_any}
 use Rattle.up_top.specs.declared.command.Command.{Command}
-use Rattle.up_top.specs.declared.command.Command.TheVariants.{Kind, Pipeline, Compile, Validate}
+use Rattle.up_top.specs.declared.command.Command.TheVariants.{Kind, Pipeline, Compile, Validate, Back}
 
 -- the word at a place
 unfoldable pub word_at : List (List ℕ) → ℕ → List ℕ
@@ -42,6 +42,9 @@ abbrev pub compile_with : Bool → Option ℕ → Option Command
 compile_with apart (Some limit) = if apart then Some (Compile limit) else None
 compile_with apart None = None
 
+abbrev pub back_with : Bool → Option Command
+back_with apart = if apart then Some Back else None
+
 -- the command that the words fit
 abbrev pub command_of : List (List ℕ) → Option Command
 command_of words =
@@ -50,6 +53,7 @@ command_of words =
     else if (nat_le 7 (length words)) && bytes_eq (word_at words 0) (codes "compile") then
     compile_with (are_outputs words) (limit_in words)
     else if (length words == 4) && bytes_eq (word_at words 0) (codes "validate") then Some Validate
+    else if (length words == 6) && bytes_eq (word_at words 0) (codes "back") then back_with (is_new words 5)
     else None
 
 -- how many words a command has
@@ -59,3 +63,4 @@ IsLongEnough (Some Kind) count = 3 ≤ count
 IsLongEnough (Some Pipeline) count = 4 ≤ count
 IsLongEnough (Some (Compile limit)) count = 7 ≤ count
 IsLongEnough (Some Validate) count = 4 ≤ count
+IsLongEnough (Some Back) count = 6 ≤ count

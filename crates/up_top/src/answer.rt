@@ -38,6 +38,40 @@ impl Stop {
     }
 }
 
+/// What comes of a plan that a map converts.
+#[derive(Drop)]
+pub enum Conversion {
+    /// The line with this number is no line of a map.
+    BadLine(usize),
+    /// The line with this number is the second of its action.
+    SecondLine(usize),
+    /// The reading of the plan stops.
+    Unspelled(Place),
+    /// The map has no entry for the action of the step with this number, or one for another number of arguments.
+    Unfit(usize),
+    /// What the converted plan is for its problem.
+    Judged(Verdict),
+    /// A number past the bound is met before the converted plan is judged, at the step with this number.
+    TooLarge(usize),
+}
+
+impl Conversion {
+    ghost use Rattle.up_top.specs.Answers.{conversion_status};
+
+    fn status(&self) -> Status
+        ensures { result ≡ conversion_status self.now }
+    {
+        match self {
+            Conversion::BadLine(_) => Status::MapRefused,
+            Conversion::SecondLine(_) => Status::MapRefused,
+            Conversion::Unspelled(_) => Status::PlanRefused,
+            Conversion::Unfit(_) => Status::PlanUnfit,
+            Conversion::Judged(verdict) => verdict_status(verdict),
+            Conversion::TooLarge(_) => Status::NumberTooLarge,
+        }
+    }
+}
+
 /// What a run has to say, with all that its text needs besides the words.
 #[derive(Drop)]
 pub enum Answer {
@@ -62,6 +96,8 @@ pub enum Answer {
     Unspelled(Place),
     /// A number past the bound is met before a plan is judged, at the step with this number.
     TooLarge(usize),
+    /// What comes of the conversion of a plan.
+    Converted(Conversion),
     Stopped(Stop),
 }
 
@@ -88,6 +124,7 @@ impl Answer {
             Answer::Judged(verdict) => verdict_status(verdict),
             Answer::Unspelled(_) => Status::PlanRefused,
             Answer::TooLarge(_) => Status::NumberTooLarge,
+            Answer::Converted(conversion) => conversion.status(),
             Answer::Stopped(stop) => stop.status(),
         }
     }

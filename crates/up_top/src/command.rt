@@ -12,4 +12,6 @@ pub enum Command {
     },
     /// Whether a plan is valid for a problem.
     Validate,
+    /// What an engine's plan is as a plan of the source.
+    Back,
 }

@@ -1,7 +1,7 @@
 ghost use Rattle.std.specs.Prelude.{◌≡◌, ◌≤◌, length, None, Some, IfSome, IfOk, IfErr};
 ghost use Rattle.plan_text.specs.Spells.{PlanText};
 ghost use Rattle.up_top.specs.Answers.{status_of};
-ghost use Rattle.up_top.specs.Cause.{ReadCause, WriteCause, StopsAt, StopsFirst, IsPlaced, HasPlan, inputs_end};
+ghost use Rattle.up_top.specs.Cause.{ReadCause, WriteCause, StopsAt, StopsFirst, IsPlaced, IsValidate, inputs_end};
 ghost use Rattle.up_top.specs.Inputs.{IsOnPlan, IsPlanAnswer, Says, StopsPlan, Tells};
 ghost use Rattle.up_top.specs.Run.{CompilesAt, HasPlace, Leaves};
 ghost use Rattle.up_top.specs.Says.{IsOf};
@@ -60,7 +60,7 @@ fn judged_inputs(alloc: Global, inputs: &Inputs) -> Answer
 #[tactic(auto, using(crate::proofs::Ends::ends, crate::proofs::Judged::judged, crate::proofs::Inputs::tells))]
 pub(crate) fn validate<W: Store>(alloc: Global, words: &[Word], store: &mut W) -> Answer
     requires within { 4 ≤ length words.now }
-    requires of { HasPlan (command_of words.now) }
+    requires of { IsValidate (command_of words.now) }
     requires inputs { inputs_end (command_of words.now) ≡ 4 }
     ensures of { IsOf (command_of words.now) result }
     ensures place { IsPlaced (command_of words.now) (status_of result) }

@@ -3,13 +3,19 @@
 
 mod answer;
 mod ask;
+mod back;
+#[cfg(test)]
+mod back_tests;
 mod command;
 mod compile;
+mod converted;
 mod judge;
 mod limit;
 mod lists;
 mod put;
 mod read;
+#[cfg(test)]
+mod reading_tests;
 mod say;
 mod status;
 #[cfg(test)]

@@ -2,7 +2,7 @@ ghost use Rattle.std.specs.Prelude.{◌≡◌, ◌≤◌, ◌<◌, length, IfOk,
 ghost use Rattle.up_store.specs.Outside.{NoneFalls};
 ghost use Rattle.up_top.specs.Answers.{stop_status};
 ghost use Rattle.up_top.specs.Cause.{ReadCause, StopsAt, IsReadStop, IsInputStop, IsHeld, AreReadable, FirstStop};
-ghost use Rattle.up_top.specs.Inputs.{AreInputs, AreSources};
+ghost use Rattle.up_top.specs.Inputs.{AreFour, AreInputs, AreSources};
 
 use crate::answer::Stop;
 use crate::words::name_at;
@@ -99,4 +99,37 @@ pub(crate) fn read_inputs<W: Store>(
     let sources = read_sources(alloc, words, store)?;
     let third = read_input(alloc, words, 3, store)?;
     Ok(Inputs { sources, third })
+}
+
+/// The texts of a problem, of a map, which is the third, and of a plan.
+#[derive(Drop)]
+pub(crate) struct BackInputs {
+    pub inputs: Inputs,
+    pub plan: Vec<u8>,
+}
+
+/// Reads the domain, the problem, the map and the plan.
+#[tactic(auto, using(crate::proofs::Inputs::held))]
+pub(crate) fn read_back_inputs<W: Store>(
+    alloc: Global,
+    words: &[Word],
+    store: &mut W,
+) -> Result<BackInputs, Stop>
+    requires { 5 ≤ length words.now }
+    ensures kept { W.held store.new ≡ W.held store.old }
+    ensures readable { IfOk result (λ four. IfSome (W.held store.old) (AreReadable words.now 5)) }
+    ensures inputs { IfOk result (λ four. IfSome (W.held store.old) (AreInputs words.now four.inputs.sources.domain.items four.inputs.sources.problem.items four.inputs.third.items)) }
+    ensures texts { IfOk result (λ four. IfSome (W.held store.old) (AreFour words.now four.inputs.sources.domain.items four.inputs.sources.problem.items four.inputs.third.items four.plan.items)) }
+    ensures stop { IfErr result (λ stop. IsInputStop 5 (stop_status stop)) }
+    ensures cause { IfErr result (λ stop. ReadCause W.faults W.misses W.larges words.now store.old store.new (stop_status stop)) }
+    ensures told { IfErr result (λ stop. IfSome (W.held store.old) (StopsAt words.now (stop_status stop))) }
+    ensures first { IfErr result (λ stop. IfSome (W.held store.old) (FirstStop words.now (stop_status stop))) }
+    ensures faults { NoneFalls (W.faults store.old) (W.faults store.new) }
+    ensures misses { NoneFalls (W.misses store.old) (W.misses store.new) }
+    ensures larges { NoneFalls (W.larges store.old) (W.larges store.new) }
+    ensures losses { W.losses store.new ≡ W.losses store.old }
+{
+    let inputs = read_inputs(alloc, words, store)?;
+    let plan = read_input(alloc, words, 4, store)?;
+    Ok(BackInputs { inputs, plan })
 }

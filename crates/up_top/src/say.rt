@@ -4,6 +4,7 @@ ghost use Rattle.up_top.specs.Answers.{answer_text, status_of, stop_status, stop
 ghost use Rattle.up_top.specs.Run.{HasPlace};
 
 use crate::answer::{Answer, Stop};
+use crate::converted::put_conversion;
 use crate::lists::{put_chain, put_features};
 use crate::put::{put_actions, put_engine, put_line, put_refused};
 use crate::verdict::{put_too_large, put_unspelled, put_verdict};
@@ -55,6 +56,7 @@ pub(crate) fn put_answer<K: Sink>(
         Answer::Judged(verdict) => put_verdict(out, verdict),
         Answer::Unspelled(place) => put_unspelled(out, *place),
         Answer::TooLarge(step) => put_too_large(out, *step),
+        Answer::Converted(conversion) => put_conversion(out, conversion),
         Answer::Stopped(stop) => put_stop(words, *stop, out),
     }
 }

@@ -3,7 +3,7 @@ use std::alloc::Global;
 use up_store::{Failing, MemorySink, MemoryStore, Word};
 use up_text::{List, Memory};
 
-const GRIPPER: &str = "(define (domain gripper)
+pub(crate) const GRIPPER: &str = "(define (domain gripper)
  (:predicates (room ?r) (ball ?b) (free) (at-robby ?r) (at ?b ?r) (carry ?b))
  (:action move :parameters (?f ?t)
   :precondition (and (room ?f) (room ?t) (at-robby ?f))
@@ -16,7 +16,7 @@ const GRIPPER: &str = "(define (domain gripper)
   :effect (and (at ?b ?r) (free) (not (carry ?b)))))
 ";
 
-const ROOMS: &str = "(define (problem two-rooms) (:domain gripper)
+pub(crate) const ROOMS: &str = "(define (problem two-rooms) (:domain gripper)
  (:objects rooma roomb ball1)
  (:init (room rooma) (room roomb) (ball ball1) (free)
   (at-robby rooma) (at ball1 rooma))
@@ -42,7 +42,7 @@ const WRITTEN_PROBLEM: &str = "(define (problem two-rooms)
 )
 ";
 
-const WRITTEN_MAP: &str = "up-map 1
+pub(crate) const WRITTEN_MAP: &str = "up-map 1
 chain
 action move 2 keep move $1 $2
 action pick 2 keep pick $1 $2
@@ -51,17 +51,19 @@ end
 ";
 
 // Doors: SD with a problem that has a goal.
-const DOORS: &str = "(define (domain s) (:types door)
+pub(crate) const DOORS: &str = "(define (domain s) (:types door)
  (:predicates (p) (q) (r) (open ?d - door))
  (:action a :precondition (p) :effect (and (q) (not (p)))))
 ";
 
-const LOCATIONS: &str = "(define (domain l) (:types truck place) (:constants depot - place)
+pub(crate) const LOCATIONS: &str =
+    "(define (domain l) (:types truck place) (:constants depot - place)
  (:functions (loc ?t - truck) - place)
  (:action home :effect (forall (?t - truck) (assign (loc ?t) depot))))
 ";
 
-const LOCATION: &str = "(define (problem l1) (:domain l) (:objects t1 t2 - truck away - place)
+pub(crate) const LOCATION: &str =
+    "(define (problem l1) (:domain l) (:objects t1 t2 - truck away - place)
  (:init (= (loc t1) away))
  (:goal (= (loc t1) depot)))
 ";
@@ -70,23 +72,31 @@ const COMPILE: &str = "compile d p e od op m";
 
 // What a run left behind.
 #[derive(Drop)]
-struct Outcome {
-    code: u8,
-    store: MemoryStore,
-    sink: MemorySink,
+pub(crate) struct Outcome {
+    pub code: u8,
+    pub store: MemoryStore,
+    pub sink: MemorySink,
 }
 
-fn word(alloc: Global, text: &str) -> Result<Word, Memory> {
+pub(crate) fn word(alloc: Global, text: &str) -> Result<Word, Memory> {
     Word::read(alloc, text.as_bytes()).map_err(|_| Memory)
 }
 
-fn failing(alloc: Global, call: u64, kept: Option<u64>) -> Result<List<Failing>, Memory> {
+pub(crate) fn failing(
+    alloc: Global,
+    call: u64,
+    kept: Option<u64>,
+) -> Result<List<Failing>, Memory> {
     let mut plans = List::new(alloc);
     plans.push(Failing { call, kept })?;
     Ok(plans)
 }
 
-fn store_of(alloc: Global, texts: [&[u8]; 3], plans: List<Failing>) -> Result<MemoryStore, Memory> {
+pub(crate) fn store_of(
+    alloc: Global,
+    texts: [&[u8]; 3],
+    plans: List<Failing>,
+) -> Result<MemoryStore, Memory> {
     let mut store = MemoryStore::new(alloc, plans);
     let [domain, problem, engine] = texts;
     store.hold(&word(alloc, "d")?, domain)?;
@@ -96,7 +106,7 @@ fn store_of(alloc: Global, texts: [&[u8]; 3], plans: List<Failing>) -> Result<Me
 }
 
 // Runs a line of words on a store, over a sink that takes so many bytes.
-fn run_line(
+pub(crate) fn run_line(
     alloc: Global,
     line: &str,
     store: MemoryStore,
@@ -123,7 +133,7 @@ fn run_texts(alloc: Global, line: &str, texts: [&str; 3]) -> Result<Outcome, Mem
     run_line(alloc, line, store, None)
 }
 
-fn is_held(outcome: &Outcome, alloc: Global, name: &str, want: Option<&str>) -> bool {
+pub(crate) fn is_held(outcome: &Outcome, alloc: Global, name: &str, want: Option<&str>) -> bool {
     let Ok(name) = word(alloc, name) else {
         return false;
     };
@@ -343,7 +353,7 @@ fn opens_no_bracket_past_two_hundred(rt: HostRuntime) {
 }
 
 // Lines that fit no command.
-const USAGE: [&str; 14] = [
+const USAGE: [&str; 18] = [
     "",
     "kind",
     "kind d",
@@ -358,6 +368,10 @@ const USAGE: [&str; 14] = [
     "plan d p e od op m",
     "validate d p",
     "validate d p e od",
+    "back d p e plan",
+    "back d p e plan out more",
+    "back d p e plan plan",
+    "back d p e plan e",
 ];
 
 #[test]
@@ -448,13 +462,13 @@ const SHIFTED: &str = "; Letter case and layout don't matter.
   :EFFECT (AND (AT-ROBBY ?T) (NOT (AT-ROBBY ?F)))
   :PRECONDITION (AND (ROOM ?F) (ROOM ?T) (AT-ROBBY ?F))))";
 
-const WALK: &str = "(define (domain w) (:predicates (at ?n) (link ?a ?b))
+pub(crate) const WALK: &str = "(define (domain w) (:predicates (at ?n) (link ?a ?b))
  (:functions (time ?a ?b) (total-cost))
  (:action walk :parameters (?a ?b)
   :precondition (and (at ?a) (link ?a ?b))
   :effect (and (not (at ?a)) (at ?b) (increase (total-cost) (time ?a ?b)))))";
 
-const CHEAPEST: &str = "(define (problem w1) (:domain w) (:objects n1 n2 n3)
+pub(crate) const CHEAPEST: &str = "(define (problem w1) (:domain w) (:objects n1 n2 n3)
  (:init (at n1) (link n1 n2) (link n2 n3) (= (time n1 n2) 5)
   (= (time n2 n3) 2.5) (= (total-cost) 0))
  (:goal (at n3)) (:metric minimize (total-cost)))";
@@ -553,7 +567,7 @@ fn puts_the_kind(rt: HostRuntime) {
 }
 
 // Doors with more actions, and a number.
-const DEEDS: &str = "(define (domain s) (:types door)
+pub(crate) const DEEDS: &str = "(define (domain s) (:types door)
  (:predicates (p) (q) (r) (open ?d - door)) (:functions (f))
  (:action a :precondition (p) :effect (and (q) (not (p))))
  (:action e :effect (r))

@@ -1,14 +1,15 @@
 ghost use Rattle.std.specs.Prelude.{◌≡◌, ◌↔◌, ◌≤◌, None, Some, IfSome, OnOk, OnErr, is_ok, is_some, true};
 ghost use Rattle.up_store.specs.Outside.{Rose, written_with, GotPrefix};
 ghost use Rattle.up_top.specs.Answers.{answer_text, status_of, stop_text, stop_status};
-ghost use Rattle.up_top.specs.Cause.{ReadCause, WriteCause, StopsAt, StopsFirst, IsPlaced, IsOutcome, HasOutputs, AllWell};
+ghost use Rattle.up_top.specs.Cause.{ReadCause, WriteCause, StopsAt, StopsFirst, IsPlaced, IsOutcome, IsBack, IsCompile, AllWell};
 ghost use Rattle.up_top.specs.Inputs.{Tells};
-ghost use Rattle.up_top.specs.Run.{CompilesAt, CompilesDone, HasPlace, Leaves};
+ghost use Rattle.up_top.specs.Run.{CarriesAt, CarriesDone, CompilesAt, CompilesDone, HasPlace, Leaves};
 ghost use Rattle.up_top.specs.Says.{IsOf, PutsAnswer, ended};
 ghost use Rattle.up_top.specs.Words.{command_of};
 
 use crate::answer::{Answer, Stop};
 use crate::ask::{features, pipeline};
+use crate::back::back;
 use crate::command::Command;
 use crate::compile::compile;
 use crate::judge::validate;
@@ -28,6 +29,7 @@ fn work<W: Store>(alloc: Global, words: &[Word], store: &mut W) -> Answer
     ensures held { Leaves words.now (W.held store.old) (W.held store.new) (status_of result) }
     ensures tells { IfSome (W.held store.old) (Tells words.now result) }
     ensures compiles { CompilesAt words.now (W.held store.old) (W.held store.new) result }
+    ensures carries { IsBack (command_of words.now) → CarriesAt words.now (W.held store.old) (W.held store.new) result }
     ensures read { ReadCause W.faults W.misses W.larges words.now store.old store.new (status_of result) }
     ensures write { WriteCause W.losses words.now store.old store.new (status_of result) }
     ensures told { IfSome (W.held store.old) (StopsAt words.now (status_of result)) }
@@ -39,6 +41,7 @@ fn work<W: Store>(alloc: Global, words: &[Word], store: &mut W) -> Answer
         Some(Command::Pipeline) => pipeline(alloc, words, store),
         Some(Command::Compile { .. }) => compile(alloc, words, store),
         Some(Command::Validate) => validate(alloc, words, store),
+        Some(Command::Back) => back(alloc, words, store),
     }
 }
 
@@ -74,9 +77,15 @@ fn attempt<W: Store, K: Sink>(alloc: Global, words: &[Word], store: &mut W, out:
     // The text of an answer is put that has the status and holds of the held texts, or a prefix where the sink failed.
     ensures text { PutsAnswer words.now (W.held store.old) result (K.faults out.old) (K.faults out.new) (K.written out.old) (K.written out.new) }
 
-    // A compile that is done holds the texts of one problem and its map, and puts the number of its actions.
-    ensures compiles { result ≡ Status.Done → HasOutputs (command_of words.now)
+    // A compile that is done holds the texts of the problem that the held texts read as, and its map, and puts the number of
+    // its actions.
+    ensures compiles { result ≡ Status.Done → IsCompile (command_of words.now)
         → CompilesDone words.now (W.held store.old) (W.held store.new) (K.written out.old) (K.written out.new) }
+
+    // A back that is done holds the text of the plan that the held map makes of the held plan, which is valid for the
+    // problem that the held texts read as, and puts that verdict.
+    ensures carries { result ≡ Status.Done → IsBack (command_of words.now)
+        → CarriesDone words.now (W.held store.old) (W.held store.new) (K.written out.old) (K.written out.new) }
 {
     let answer = work(alloc, words, store);
     let put = put_answer(words, &answer, out);
@@ -103,9 +112,15 @@ pub fn run<W: Store, K: Sink>(alloc: Global, words: &[Word], store: &mut W, out:
     // The text of an answer is put that has the status and holds of the held texts, or a prefix where the sink failed.
     ensures text { PutsAnswer words.now (W.held store.old) result (K.faults out.old) (K.faults out.new) (K.written out.old) (K.written out.new) }
 
-    // A compile that is done holds the texts of one problem and its map, and puts the number of its actions.
-    ensures compiles { result ≡ Status.Done → HasOutputs (command_of words.now)
+    // A compile that is done holds the texts of the problem that the held texts read as, and its map, and puts the number of
+    // its actions.
+    ensures compiles { result ≡ Status.Done → IsCompile (command_of words.now)
         → CompilesDone words.now (W.held store.old) (W.held store.new) (K.written out.old) (K.written out.new) }
+
+    // A back that is done holds the text of the plan that the held map makes of the held plan, which is valid for the
+    // problem that the held texts read as, and puts that verdict.
+    ensures carries { result ≡ Status.Done → IsBack (command_of words.now)
+        → CarriesDone words.now (W.held store.old) (W.held store.new) (K.written out.old) (K.written out.new) }
 
     // Where the words fit and nothing fails, the run is done, refuses a text or wants memory.
     ensures complete { is_some (command_of words.now) ≡ true → IfSome (W.held store.old) (λ files.

@@ -1,7 +1,7 @@
 ghost use Rattle.std.specs.Prelude.{◌≡◌, ◌≤◌, ◌++◌, codes, decimal, OnOk, OnErr};
 ghost use Rattle.up_store.specs.Outside.{Rose, written_with, GotPrefix};
 ghost use Rattle.up_top.specs.Answers.{place_behind, too_large_text, unspelled_text, verdict_status};
-ghost use Rattle.up_top.specs.Verdicts.{bad_step_text, divisor_text, fault_word, fraction_text, metric_text, verdict_text, why_word};
+ghost use Rattle.up_top.specs.Verdicts.{numbered_text, divisor_text, fault_word, fraction_text, metric_text, verdict_text, why_word};
 
 use crate::put::{put_both, put_count, put_line, put_number};
 use crate::status::Status;
@@ -119,21 +119,21 @@ fn put_valid<K: Sink>(out: &mut K, front: &[u8], metric: Value) -> Result<(), Si
     put_metric(out, metric)
 }
 
-// Puts a front, a step's number and a word, and ends the line.
+/// Puts a front, a number and a word, and ends the line.
 #[tactic(auto, using(crate::proofs::Puts::puts))]
-fn put_bad_step<K: Sink>(
+pub(crate) fn put_numbered<K: Sink>(
     out: &mut K,
     front: &[u8],
-    step: usize,
+    number: usize,
     word: &[u8],
 ) -> Result<(), SinkFailed>
-    ensures whole { OnOk result (K.written out.new ≡ written_with (bad_step_text front.now step word.now) (K.written out.old)) }
-    ensures prefix { OnErr result (GotPrefix (bad_step_text front.now step word.now) (K.written out.old) (K.written out.new)) }
+    ensures whole { OnOk result (K.written out.new ≡ written_with (numbered_text front.now number word.now) (K.written out.old)) }
+    ensures prefix { OnErr result (GotPrefix (numbered_text front.now number word.now) (K.written out.old) (K.written out.new)) }
     ensures failed { OnErr result (Rose (K.faults out.old) (K.faults out.new)) }
     ensures counts { K.faults out.old ≤ K.faults out.new }
 {
     let mut buffer = Buffer::new();
-    put_both(out, front, buffer.format(step).as_bytes())?;
+    put_both(out, front, buffer.format(number).as_bytes())?;
     put_line(out, b" ", word)
 }
 
@@ -147,7 +147,7 @@ pub(crate) fn put_verdict<K: Sink>(out: &mut K, verdict: &Verdict) -> Result<(),
     match verdict {
         Verdict::Valid { metric } => put_valid(out, b"valid\n", *metric),
         Verdict::BadStep { step, why } => {
-            put_bad_step(out, b"plan invalid step ", *step, fault_word(*why))
+            put_numbered(out, b"plan invalid step ", *step, fault_word(*why))
         }
         Verdict::GoalOpen => out.put(b"plan invalid goal\n"),
         Verdict::Broken { constraint } => {

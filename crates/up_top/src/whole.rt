@@ -1,5 +1,5 @@
-ghost use Rattle.std.specs.Prelude.{◌≡◌, IfOk, IfErr, OnOk};
-ghost use Rattle.up_check.specs.Passes.{HaveForms};
+ghost use Rattle.std.specs.Prelude.{◌≡◌, IfOk, IfErr};
+ghost use Rattle.up_check.specs.Passes.{Reads};
 ghost use Rattle.up_top.specs.Answers.{status_of};
 ghost use Rattle.up_top.specs.Cause.{IsReadRefusal, IsRefusal};
 ghost use Rattle.up_top.specs.Inputs.{IsChosen, StopsBefore, StopsChoice, StopsRead};
@@ -17,7 +17,7 @@ use up_tree::Problem;
 
 /// The problem that the sources say.
 pub(crate) fn problem_of(alloc: Global, sources: &Sources) -> Result<Problem, Answer>
-    ensures forms { OnOk result (HaveForms sources.now.domain.items sources.now.problem.items) }
+    ensures reads { IfOk result (Reads sources.now.domain.items sources.now.problem.items) }
     ensures stops { IfErr result (StopsRead sources.now.domain.items sources.now.problem.items) }
     ensures refused { IfErr result (λ answer. IsReadRefusal (status_of answer)) }
 {
@@ -80,6 +80,7 @@ pub(crate) struct Whole {
 
 // A problem and the map for an engine text.
 fn whole_with(alloc: Global, problem: Problem, engine: &[u8]) -> Result<Whole, Answer>
+    ensures kept { IfOk result (λ whole. whole.problem ≡ problem) }
     ensures whole { IfOk result (λ whole. IsWhole engine.now whole.problem whole.map) }
     ensures stops { IfErr result (StopsChoice engine.now problem) }
 {
@@ -92,7 +93,7 @@ fn whole_with(alloc: Global, problem: Problem, engine: &[u8]) -> Result<Whole, A
 /// The compiled problem of the inputs.
 #[tactic(auto, using(crate::proofs::Inputs::stops))]
 pub(crate) fn whole_of(alloc: Global, inputs: &Inputs) -> Result<Whole, Answer>
-    ensures forms { OnOk result (HaveForms inputs.now.sources.domain.items inputs.now.sources.problem.items) }
+    ensures reads { IfOk result (λ whole. Reads inputs.now.sources.domain.items inputs.now.sources.problem.items whole.problem) }
     ensures whole { IfOk result (λ whole. IsWhole inputs.now.third.items whole.problem whole.map) }
     ensures stops { IfErr result (StopsBefore inputs.now.sources.domain.items inputs.now.sources.problem.items inputs.now.third.items) }
 {

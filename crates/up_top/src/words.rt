@@ -1,6 +1,6 @@
 ghost use Rattle.std.specs.Prelude.{◌≡◌, ◌<◌, ◌≤◌, length, bytes_eq};
 ghost use Rattle.std.specs.List.{list_any};
-ghost use Rattle.up_top.specs.Words.{IsLongEnough, are_outputs, command_of, compile_with, is_new, limit_in, word_at};
+ghost use Rattle.up_top.specs.Words.{IsLongEnough, are_outputs, back_with, command_of, compile_with, is_new, limit_in, word_at};
 
 use crate::command::Command;
 use crate::limit::limit_of;
@@ -67,6 +67,19 @@ fn compile_of(words: &[Word]) -> Option<Command>
     }
 }
 
+// The command of six words that begin with `back`.
+fn back_of(words: &[Word]) -> Option<Command>
+    requires { 6 ≤ length words.now }
+    ensures command { result ≡ back_with (is_new words.now 5) }
+    ensures long { IsLongEnough result (length words.now) }
+{
+    if is_new(words, 5) {
+        Some(Command::Back)
+    } else {
+        None
+    }
+}
+
 /// The command that the words fit.
 pub fn command_of(words: &[Word]) -> Option<Command>
     ensures command { result ≡ command_of words.now }
@@ -83,6 +96,9 @@ pub fn command_of(words: &[Word]) -> Option<Command>
     }
     if words.len() == 4 && name_at(words, 0).bytes() == b"validate".as_slice() {
         return Some(Command::Validate);
+    }
+    if words.len() == 6 && name_at(words, 0).bytes() == b"back".as_slice() {
+        return back_of(words);
     }
     None
 }
