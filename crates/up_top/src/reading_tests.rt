@@ -69,7 +69,10 @@ fn refuses_a_goal_that_is_nested_too_deep(rt: HostRuntime) {
     let texts = [GRIPPER.as_bytes(), problem.as_slice(), b"".as_slice()];
     let store = store_of(alloc, texts, List::new(alloc)).expect(&rt, "room");
     let outcome = run_line(alloc, COMPILE, store, None).expect(&rt, "room");
-    assert_eq!(rt; outcome.sink.bytes(), b"problem refused 2:999 too-deep\n".as_slice());
+    assert_eq!(rt;
+        outcome.sink.bytes(),
+        b"problem refused 2:999 too-deep\n".as_slice()
+    );
     assert_eq!(rt; outcome.code, 7);
     assert!(rt; is_held(&outcome, alloc, "od", None));
 }
