@@ -12,7 +12,7 @@ use Rattle.up_top.specs.Words.{command_of}
 use Rattle.up_top.specs.declared.answer.Answer.{Answer}
 use Rattle.up_top.specs.Answers.{stop_status, status_of}
 use Rattle.up_top.specs.Says.{ended}
-use Rattle.up_top.specs.Cause.{ReadCause, WriteCause, StopsAt, FirstStop, StopsFirst, AreReadable, IsReadStop, IsInputStop, IsRefusal, IsReadRefusal, IsWriteStatus, IsPlaced, IsOutput, IsCompile, inputs_end}
+use Rattle.up_top.specs.Cause.{ReadCause, WriteCause, StopsAt, FirstStop, StopsFirst, AreReadable, IsReadStop, IsInputStop, IsRefusal, IsReadRefusal, IsWriteStatus, IsPlaced, IsOutput, IsCompile, IsPipeline, HasEngine, HasOutputs, inputs_end}
 use Rattle.up_top.specs.Run.{Leaves, untouched, wrote, carried, HasPlace}
 
 -- the stop of one input is one of the inputs
@@ -338,6 +338,25 @@ write_placed command (stop.ReadFault at) kind has = absurd kind
 write_placed command (stop.WriteFault at) kind has = compile_output command at has kind.0 kind.1
 write_placed command stop.NoPipeline kind has = absurd kind
 write_placed command (stop.InputTooLarge at) kind has = absurd kind
+
+pub pipeline_engine : (command : Option Command) → IsPipeline command → HasEngine command
+pipeline_engine None is = is
+pipeline_engine (Some command.Kind) is = is
+pipeline_engine (Some command.Pipeline) is = tt
+pipeline_engine (Some (command.Compile limit)) is = tt
+pipeline_engine (Some command.Validate) is = is
+pipeline_engine (Some command.Back) is = is
+
+pipeline_outputs : (command : Option Command) → IsPipeline command → ¬ HasOutputs command
+pipeline_outputs None is = λ has. has
+pipeline_outputs (Some command.Kind) is = λ has. has
+pipeline_outputs (Some command.Pipeline) is = λ has. has
+pipeline_outputs (Some (command.Compile limit)) is = absurd is
+pipeline_outputs (Some command.Validate) is = λ has. has
+pipeline_outputs (Some command.Back) is = absurd is
+
+pub pipeline_held : (words : List (List ℕ)) (old new : Option Files) → IsPipeline (command_of words) → new ≡ old → Leaves words old new Done
+pipeline_held words old new is same = Leaves.untouched (pipeline_outputs (command_of words) is) same
 
 pub write_within : (words : List (List ℕ)) (stop : Stop) → IsWriteStatus 4 6 (stop_status stop) → HasPlace words (stop_status stop)
 write_within words stop.Usage kind = absurd kind
