@@ -9,6 +9,7 @@ use Rattle.up_top.specs.declared.status.Status.TheVariants.{Done, Usage, Memory,
 use Rattle.up_top.specs.Words.{word_at, command_of}
 use Rattle.up_tree.specs.declared.problem.Parts.{Parts}
 use Rattle.up_map.specs.declared.map.Map.{Map}
+use Rattle.up_map.specs.Spells.{MapText}
 use Rattle.up_map.specs.Texts.{map_text}
 use Rattle.pddl_write.specs.Files.{domain_text, problem_text}
 use Rattle.up_top.specs.Run.{Output, SomeWritten, HeldAfter, Leaves, IsWhole, Compiles, outputs_of, held_after, write_status}
@@ -69,26 +70,27 @@ goes_on words output outputs old mid new NumberTooLarge first last done held kin
 -- what comes of the writes of a problem and its map
 pub wrote : (words : List (List ℕ)) (old new : Option Files) (status : Status) (problem : Parts) (map : Map) (domain_bytes problem_bytes map_bytes : List ℕ)
     → IsCompile (command_of words) → (domain source engine : List ℕ) → IfSome old (AreInputs words domain source engine) → Reads domain source problem
-    → IsWhole engine problem map
+    → IsWhole engine problem map → MapText map_bytes map
     → domain_bytes ≡ domain_text problem → problem_bytes ≡ problem_text problem → map_bytes ≡ map_text map
     → HeldAfter words (outputs_of domain_bytes problem_bytes map_bytes) old new status
     → Leaves words old new status
-wrote words old new status problem map domain_bytes problem_bytes map_bytes has domain source engine holds reads whole same_domain same_problem same_map held =
+wrote words old new status problem map domain_bytes problem_bytes map_bytes has domain source engine holds reads whole spelled same_domain same_problem same_map held =
     Leaves.wrote (outputs_of (domain_text problem) (problem_text problem) (map_text map)) problem has
-    (record { domain = domain; source = source; engine = engine; holds = holds; reads = reads; map = map; whole = whole; texts = refl })
+    (record { domain = domain; source = source; engine = engine; holds = holds; reads = reads; map = map; whole = whole; spelled = rw same_map at spelled; texts = refl })
     (rw (← same_domain) (rw (← same_problem) (rw (← same_map) held)))
 
 -- the writes of a problem and its map that are done
 pub compiles : (words : List (List ℕ)) (old new : Option Files) (problem : Parts) (map : Map) (domain_bytes problem_bytes map_bytes : List ℕ)
     → (domain source engine : List ℕ) → IfSome old (AreInputs words domain source engine) → Reads domain source problem → IsWhole engine problem map
+    → MapText map_bytes map
     → domain_bytes ≡ domain_text problem → problem_bytes ≡ problem_text problem → map_bytes ≡ map_text map
     → new ≡ held_after words (outputs_of domain_bytes problem_bytes map_bytes) old
     → Compiles words old new (length problem.actions)
-compiles words old new problem map domain_bytes problem_bytes map_bytes domain source engine holds reads whole same_domain same_problem same_map held =
+compiles words old new problem map domain_bytes problem_bytes map_bytes domain source engine holds reads whole spelled same_domain same_problem same_map held =
     record {
       problem = problem;
       outputs = outputs_of (domain_text problem) (problem_text problem) (map_text map);
-      are = record { domain = domain; source = source; engine = engine; holds = holds; reads = reads; map = map; whole = whole; texts = refl };
+      are = record { domain = domain; source = source; engine = engine; holds = holds; reads = reads; map = map; whole = whole; spelled = rw same_map at spelled; texts = refl };
       held = rw (← same_domain) (rw (← same_problem) (rw (← same_map) held));
       counted = refl;
     }

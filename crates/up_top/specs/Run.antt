@@ -10,6 +10,7 @@ use Rattle.up_compiler.specs.Identity.{identity_entries}
 use Rattle.up_tree.specs.declared.problem.Parts.{Parts}
 use Rattle.up_check.specs.Passes.{Reads}
 use Rattle.up_map.specs.declared.map.Map.{Map}
+use Rattle.up_map.specs.Spells.{MapText}
 use Rattle.up_map.specs.Texts.{map_text}
 use Rattle.pddl_write.specs.Files.{domain_text, problem_text}
 use Rattle.up_top.specs.declared.command.Command.{Command}
@@ -68,7 +69,8 @@ pub record IsWhole (engine : List ℕ) (problem : Parts) (map : Map) : Type 0 wh
   pub chosen : IsChosen engine problem map.stages.stages
   pub kept : map.back ≡ identity_entries problem.actions
 
--- The texts of the problem that the held texts read as, and of its map, whose chain is chosen for the held engine text.
+-- The texts of the problem that the held texts read as, and of its map, whose chain is chosen for the held engine text. The
+-- map's text spells the map.
 pub record AreOutputs (words : List (List ℕ)) (held : Option Files) (problem : Parts) (outputs : List Output) : Type 0 where
   pub domain : List ℕ
   pub source : List ℕ
@@ -77,6 +79,7 @@ pub record AreOutputs (words : List (List ℕ)) (held : Option Files) (problem :
   pub reads : Reads domain source problem
   pub map : Map
   pub whole : IsWhole engine problem map
+  pub spelled : MapText (map_text map) map
   pub texts : outputs ≡ outputs_of (domain_text problem) (problem_text problem) (map_text map)
 
 -- the status of the writes
