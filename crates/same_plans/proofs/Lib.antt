@@ -1,0 +1,3 @@
+pub mod Identity
+pub mod Composing
+pub mod Consequences
