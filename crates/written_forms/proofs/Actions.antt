@@ -40,7 +40,7 @@ use Rattle.written_forms.proofs.Effects.{SpellsEffect, spells_effect}
 use Rattle.written_forms.proofs.Rows.{variables_read, all_formed}
 
 -- no condition and no effect is `()`
-some_formula : (tree : Sexp) (f : RawFormula) → forms.IsFormula tree f → is_empty tree ≡ false
+pub some_formula : (tree : Sexp) (f : RawFormula) → forms.IsFormula tree f → is_empty tree ≡ false
 some_formula _ _ (forms.of_and place there trees fs is) = is_empty-Group place _
 some_formula _ _ (forms.of_or place there trees fs is) = is_empty-Group place _
 some_formula _ _ (forms.of_not place there tree f is) = is_empty-Group place _

@@ -31,20 +31,21 @@ not_reserved true true x y e = cc
 not_reserved true false x y e = refl
 not_reserved false r x y e = cc
 
--- the words that effects begin with, and `undefined`, are no names
-record IsFree (word : List ℕ) : Type 0 where
-  no_and : bytes_eq word (codes "and") ≡ false
-  no_forall : bytes_eq word (codes "forall") ≡ false
-  no_when : bytes_eq word (codes "when") ≡ false
-  no_not : bytes_eq word (codes "not") ≡ false
-  no_assign : bytes_eq word (codes "assign") ≡ false
-  no_increase : bytes_eq word (codes "increase") ≡ false
-  no_decrease : bytes_eq word (codes "decrease") ≡ false
-  no_scale_up : bytes_eq word (codes "scale-up") ≡ false
-  no_scale_down : bytes_eq word (codes "scale-down") ≡ false
-  no_undefined : bytes_eq word (codes "undefined") ≡ false
+-- the words that effects begin with, `undefined` and `number` are no names
+pub record IsFree (word : List ℕ) : Type 0 where
+  pub no_and : bytes_eq word (codes "and") ≡ false
+  pub no_forall : bytes_eq word (codes "forall") ≡ false
+  pub no_when : bytes_eq word (codes "when") ≡ false
+  pub no_not : bytes_eq word (codes "not") ≡ false
+  pub no_assign : bytes_eq word (codes "assign") ≡ false
+  pub no_increase : bytes_eq word (codes "increase") ≡ false
+  pub no_decrease : bytes_eq word (codes "decrease") ≡ false
+  pub no_scale_up : bytes_eq word (codes "scale-up") ≡ false
+  pub no_scale_down : bytes_eq word (codes "scale-down") ≡ false
+  pub no_undefined : bytes_eq word (codes "undefined") ≡ false
+  pub no_number : bytes_eq word (codes "number") ≡ false
 
-free : (word : List ℕ) → is_reserved word ≡ false → IsFree word
+pub free : (word : List ℕ) → is_reserved word ≡ false → IsFree word
 unfolding reserved_words
 free word none =
     let (no_and, after_and) = or_parts (bytes_eq word (codes "and")) _ none in
@@ -61,6 +62,7 @@ free word none =
     let (no_down, after_down) = or_parts (bytes_eq word (codes "scale-down")) _ after_up in
     let (no_either, after_either) = or_parts (bytes_eq word (codes "either")) _ after_down in
     let (no_undefined, after_undefined) = or_parts (bytes_eq word (codes "undefined")) _ after_either in
+    let (no_number, after_number) = or_parts (bytes_eq word (codes "number")) _ after_undefined in
     record {
       no_and = no_and;
       no_forall = no_forall;
@@ -72,6 +74,7 @@ free word none =
       no_scale_up = no_up;
       no_scale_down = no_down;
       no_undefined = no_undefined;
+      no_number = no_number;
     }
 
 word_other : (word : List ℕ) → IsFree word → effect_word word ≡ head.Other

@@ -52,7 +52,7 @@ digits_go_on (suc k) n bytes all =
     elim [ true ↦ more | false ↦ digits_go_on k (n / 10) (digit_glyph false (n % 10) ∷ bytes) more ] in
     by_test (n / 10 == 0)
 
-numbered_spelled : (k : ℕ) → Spelled (codes "x" ++ decimal k)
+pub numbered_spelled : (k : ℕ) → Spelled (codes "x" ++ decimal k)
 unfolding digits
 numbered_spelled k = digits_go_on 64 k [] refl
 
