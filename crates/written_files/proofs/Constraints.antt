@@ -1,7 +1,6 @@
 -- Written constraints and metrics are read as they are.
 use Rattle.std.proofs.Common.{◌≡◌, ℕ, Bool, true, false, List, [], ◌∷◌, ◌++◌, refl, ap, append-nil}
 use Rattle.std.specs.Prelude.{codes, flat_map, if◌then◌else◌}
-use Rattle.up_text.specs.declared.name.Name.{Name}
 use Rattle.up_text.specs.declared.place.Place.{Place}
 use Rattle.up_text.specs.Lists.{Every}
 use Rattle.up_tree.specs.declared.term.Typed.{Typed}
@@ -16,8 +15,7 @@ use Rattle.up_tree.specs.WellFormed.{AreVariables, IsPlain, IsConstraint, formul
 use Rattle.pddl_lex.specs.declared.tree.TokenKind.{TokenKind}
 use Rattle.pddl_lex.specs.declared.tree.TokenKind.TheVariants as kind
 use Rattle.pddl_lex.specs.declared.tree.Sexp.{Sexp, Group}
-use Rattle.pddl_lex.specs.Verdicts.{fine, all}
-use Rattle.pddl_parse.specs.declared.raw.RawTerm.{RawTerm}
+use Rattle.pddl_lex.specs.Verdicts.{fine}
 use Rattle.pddl_parse.specs.declared.raw.RawMetric.{RawMetric}
 use Rattle.pddl_parse.specs.declared.raw.RawFormula.{RawFormula}
 use Rattle.pddl_parse.specs.declared.raw.RawConstraint as raw
@@ -31,12 +29,11 @@ use Rattle.pddl_parse.specs.Constraints as parse
 use Rattle.pddl_parse.specs.Brackets.{is_word}
 use Rattle.pddl_parse.specs.Starts.{metric, minimizes}
 use Rattle.pddl_parse.specs.Forms.{leaf}
-use Rattle.pddl_parse.proofs.Nodes.{constraint-Group, constraint_head-Leaf, is_empty-Group, is_word-Leaf}
+use Rattle.pddl_parse.proofs.Nodes.{constraint-Group, constraint_head-Leaf, is_empty-Group}
 use Rattle.pddl_parse.proofs.Read.{formula_read, term_read}
-use Rattle.pddl_write.specs.Effects.{rule_word}
 use Rattle.written_tokens.specs.Tokens.{group, variables_tokens, expr_tokens, formula_tokens}
 use Rattle.written_tokens.specs.EffectTokens.{for_each_tokens, rule_tokens, constraint_tokens}
-use Rattle.written_forms.specs.Raw.{IsEmpty, empty, AreRawGroups, IsRawFormula, IsRawExpr}
+use Rattle.written_forms.specs.Raw.{IsEmpty, AreRawGroups, IsRawFormula, IsRawExpr}
 use Rattle.written_forms.proofs.Trees.{rowed_as, Alone, alone, Pair, pair, alone_rowed, pair_rowed, Bracket, bracket, Led, led, led_rowed}
 use Rattle.written_forms.proofs.Names.{AllNamed, AreNamed}
 use Rattle.written_forms.proofs.Terms.{SpellsTerm, spells, expr_formed}

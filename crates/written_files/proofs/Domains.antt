@@ -1,8 +1,7 @@
 -- The written domain is read as its abstract syntax.
-use Rattle.std.proofs.Common.{◌≡◌, ℕ, Bool, true, false, List, [], ◌∷◌, ◌++◌, map, refl, ap, sym, subst, ◌∙◌, append_assoc, append-nil, take}
+use Rattle.std.proofs.Common.{◌≡◌, ℕ, Bool, true, false, List, [], ◌∷◌, ◌++◌, refl, ap, sym, subst, ◌∙◌, append_assoc, append-nil, take}
 use Rattle.std.specs.Prelude.{codes, flat_map, ◌&&◌, ◌||◌, Some}
 use Rattle.std.specs.Str.{bytes_eq}
-use Rattle.up_text.specs.declared.name.Name.{Name}
 use Rattle.up_text.specs.declared.place.Place.{Place}
 use Rattle.up_text.specs.Names.{IsName}
 use Rattle.up_text.specs.Lists.{Every}
@@ -15,7 +14,6 @@ use Rattle.up_tree.specs.WellFormed.{IsAction, IsWellFormed}
 use Rattle.up_kind.specs.declared.feature.Feature.TheVariants.{FlatTyping, HierarchicalTyping, NegativeConditions, DisjunctiveConditions, Equalities, ExistentialConditions, UniversalConditions, ConditionalEffects, ForallEffects, ObjectFluents, NumericFluents, TrajectoryConstraints}
 use Rattle.up_kind.specs.Features.{FeatureSet}
 use Rattle.up_kind.specs.Carried.{carries}
-use Rattle.pddl_lex.specs.declared.tree.Token.{Token}
 use Rattle.pddl_lex.specs.declared.tree.TokenKind.{TokenKind}
 use Rattle.pddl_lex.specs.declared.tree.TokenKind.TheVariants as kind
 use Rattle.pddl_lex.specs.declared.tree.Sexp.{Sexp, Group}
@@ -45,15 +43,14 @@ use Rattle.written_tokens.proofs.Named.{every-append}
 use Rattle.written_forms.specs.Laws.{SpellsAction}
 use Rattle.written_forms.specs.Raw.{IsEmpty, empty, IsFirst, first, IsRawName, AreRawGroups, no_groups}
 use Rattle.written_forms.specs.RawEffects.{IsRawAction}
-use Rattle.written_forms.proofs.Trees.{Formed, formed_as, rowed_as, none_rowed, group_formed, Led, led, led_rowed}
-use Rattle.written_forms.proofs.Names.{AllNamed}
+use Rattle.written_forms.proofs.Trees.{rowed_as, none_rowed, group_formed, Led, led, led_rowed}
 use Rattle.written_forms.proofs.Actions.{actions_are_formed}
 use Rattle.written_files.specs.RawFiles.{AreEach, IsRawPredicate, AreRawFunctions, no_functions, IsRawDomainWith}
 use Rattle.written_files.specs.Laws.{SpellsDomain, DomainsAreFormed}
 use Rattle.written_files.proofs.Wellnamed as known
-use Rattle.written_files.proofs.Each.{TreeOf, RowOf, row_as, tree_as, in_front, Section, begun, section_of, ReadsOne, reads_one, ReadsAll, reads_all}
+use Rattle.written_files.proofs.Each.{TreeOf, RowOf, tree_as, in_front, Section, begun, section_of, ReadsOne, reads_one, ReadsAll, reads_all}
 use Rattle.written_files.proofs.Lists.{ReadsList, reads_list, list_read}
-use Rattle.written_files.proofs.Symbols.{PredicateNamed, FunctionNamed, predicates_read, ReadsFunctions, reads_functions, functions_read}
+use Rattle.written_files.proofs.Symbols.{predicates_read, ReadsFunctions, reads_functions, functions_read}
 use Rattle.written_files.proofs.Sections.{NoneOf, none_behind, none_before, and_false, title_read, section_rowed}
 
 -- trees that are read as sections behind others, where none of those due stands yet, and bring a form of which `In`
@@ -95,7 +92,6 @@ of_empty P _ empty is = is
 abbrev IsKnown : TokenKind → Type 0
 IsKnown (kind.Keyword word) = is_known word ≡ true
 IsKnown k = ⊥
-
 
 -- trees that are read as requirements
 abbrev AreRequirements : List Sexp → Type 0

@@ -1,6 +1,6 @@
 -- Written initial states are read as they are.
-use Rattle.std.proofs.Common.{◌≡◌, List, [], ◌∷◌, ◌++◌, map, refl, ap, ◌∙◌, sym, append_assoc}
-use Rattle.std.specs.Prelude.{codes, flat_map, Option, Some, None, IsSome, IsSomeAnd, option_map}
+use Rattle.std.proofs.Common.{◌≡◌, List, [], ◌∷◌, ◌++◌, map, refl, ap, append_assoc}
+use Rattle.std.specs.Prelude.{flat_map, Option, Some, None, IsSome, IsSomeAnd, option_map}
 use Rattle.up_frac.specs.Fraction.{Fraction}
 use Rattle.up_text.specs.declared.name.Name.{Name}
 use Rattle.up_text.specs.declared.place.Place.{Place}
@@ -19,7 +19,6 @@ use Rattle.pddl_lex.specs.declared.tree.Sign.TheVariants as sign
 use Rattle.pddl_lex.specs.declared.tree.TokenKind.{TokenKind}
 use Rattle.pddl_lex.specs.declared.tree.TokenKind.TheVariants as kind
 use Rattle.pddl_lex.specs.declared.tree.Sexp.{Sexp, Group}
-use Rattle.pddl_lex.specs.Verdicts.{fine}
 use Rattle.pddl_parse.specs.declared.raw.Ident.{Ident}
 use Rattle.pddl_parse.specs.declared.raw.RawGround.{RawGround}
 use Rattle.pddl_parse.specs.declared.raw.RawValue.{RawValue}
@@ -27,7 +26,6 @@ use Rattle.pddl_parse.specs.declared.raw.RawValue.TheVariants as raw_value
 use Rattle.pddl_parse.specs.declared.raw.RawInit.{RawInit}
 use Rattle.pddl_parse.specs.declared.raw.RawInit.TheVariants as init
 use Rattle.pddl_parse.specs.Shapes.{ident}
-use Rattle.pddl_parse.specs.Brackets.{is_word}
 use Rattle.pddl_parse.specs.Starts as parse
 use Rattle.pddl_parse.specs.Starts.{is_same, initial, initial_value}
 use Rattle.pddl_parse.specs.Forms.{leaf, ident_at}
@@ -36,8 +34,8 @@ use Rattle.pddl_parse.proofs.Read.{ident_read}
 use Rattle.written_tokens.specs.Tokens.{group}
 use Rattle.written_tokens.specs.FileTokens.{ground_tokens, fact_tokens, number_fact_tokens, value_fact_tokens}
 use Rattle.written_tokens.proofs.Named.{found_and, and_some}
-use Rattle.written_forms.specs.Raw.{IsEmpty, empty, IsRawName, at}
-use Rattle.written_forms.proofs.Trees.{none_rowed, group_formed, leaf_formed, Led, led, led_rowed, Pair, pair, pair_rowed}
+use Rattle.written_forms.specs.Raw.{IsEmpty, IsRawName, at}
+use Rattle.written_forms.proofs.Trees.{group_formed, leaf_formed, Led, led, led_rowed, Pair, pair, pair_rowed}
 use Rattle.written_forms.proofs.Names.{word_is, name_of-name, found_named, AllNamed, AreNamed}
 use Rattle.written_files.specs.RawFiles.{AreEach, IsRawGround, IsRawFact, an_atom, IsRawNumberFact, a_number, IsRawValueFact, an_object, IsRawInit}
 use Rattle.written_files.proofs.Each.{TreeOf, RowOf, row_as, ReadsOne, reads_one, ReadsAll, reads_all, each_then, each_read}
@@ -79,12 +77,12 @@ atom_read x is are tokens kinds =
     made place _ (led there rest (reads_all idents reads raw)) =
         reads_one (init.Atom (record { place = place; name = ident_at x.predicate there; args = idents }))
         (rw (
-        bracket-Group parse.in_init place (leaf (kind.Word x.predicate) there ∷ rest),
-        is_word-Leaf,
-        (free_name x.predicate is).no_not,
-        is_same-Leaf,
-        ident_read _ _ (word_is x.predicate is there),
-        reads,
+          bracket-Group parse.in_init place (leaf (kind.Word x.predicate) there ∷ rest),
+          is_word-Leaf,
+          (free_name x.predicate is).no_not,
+          is_same-Leaf,
+          ident_read _ _ (word_is x.predicate is there),
+          reads,
         ) refl)
         (an_atom (record { place = place; name = ident_at x.predicate there; args = idents }) (record { name = at there; args = raw }))
 

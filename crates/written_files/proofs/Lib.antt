@@ -3,6 +3,8 @@ pub mod Domains
 pub mod Each
 pub mod Facts
 pub mod Lists
+pub mod Problems
+pub mod Reading
 pub mod Sections
 pub mod Symbols
 pub mod Wellnamed

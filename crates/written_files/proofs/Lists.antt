@@ -14,11 +14,11 @@ use Rattle.pddl_parse.specs.declared.raw.RawGroup.{RawGroup}
 use Rattle.pddl_parse.specs.declared.typed.Item.TheVariants as item
 use Rattle.pddl_parse.specs.TypedLists as lists
 use Rattle.pddl_parse.specs.TypedLists.{is_minus, ends_after, last_group, typed_list}
-use Rattle.pddl_parse.specs.Forms.{leaf, ident_at}
+use Rattle.pddl_parse.specs.Forms.{ident_at}
 use Rattle.pddl_parse.proofs.Read.{ident_read}
 use Rattle.written_tokens.specs.Tokens.{object_tokens}
 use Rattle.written_forms.specs.Raw.{at, AreRawNames, no_names, more_names, AreRawGroups, no_groups, more_groups, one_group}
-use Rattle.written_forms.proofs.Trees.{kinds_of, Rowed, none_rowed, rowed_as, Led, led, led_rowed}
+use Rattle.written_forms.proofs.Trees.{none_rowed, rowed_as, Led, led, led_rowed}
 use Rattle.written_forms.proofs.Names.{word_is, AllNamed}
 use Rattle.written_files.proofs.Each.{RowOf}
 

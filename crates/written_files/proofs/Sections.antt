@@ -1,6 +1,6 @@
 -- Written sections are read in order.
-use Rattle.std.proofs.Common.{◌≡◌, ℕ, Bool, true, false, List, [], ◌∷◌, ◌++◌, map, refl, ap, sym, ◌∙◌, append_assoc}
-use Rattle.std.specs.Prelude.{codes, flat_map, ◌||◌, ◌&&◌, Some}
+use Rattle.std.proofs.Common.{◌≡◌, ℕ, Bool, true, false, List, [], ◌∷◌, ◌++◌, refl}
+use Rattle.std.specs.Prelude.{flat_map, ◌||◌, ◌&&◌}
 use Rattle.std.specs.Str.{bytes_eq}
 use Rattle.up_text.specs.declared.name.Name.{Name}
 use Rattle.up_text.specs.declared.place.Place.{Place}
@@ -9,10 +9,8 @@ use Rattle.up_text.specs.Lists.{Every}
 use Rattle.pddl_lex.specs.declared.tree.TokenKind.{TokenKind}
 use Rattle.pddl_lex.specs.declared.tree.TokenKind.TheVariants as kind
 use Rattle.pddl_lex.specs.declared.tree.Sexp.{Sexp, Group}
-use Rattle.pddl_lex.specs.Verdicts.{fine, followed, behind}
-use Rattle.pddl_parse.specs.declared.raw.Ident.{Ident}
-use Rattle.pddl_parse.specs.Shapes.{Read, ident}
-use Rattle.pddl_parse.specs.Brackets.{is_section, has_section, is_word}
+use Rattle.pddl_lex.specs.Verdicts.{behind}
+use Rattle.pddl_parse.specs.Brackets.{is_section, has_section}
 use Rattle.pddl_parse.specs.Texts.{title, in_title}
 use Rattle.pddl_parse.specs.Forms.{leaf, ident_at}
 use Rattle.pddl_parse.proofs.Nodes.{bracket-Group, is_section-Group, is_keyword-Leaf, is_word-Leaf}
@@ -22,7 +20,7 @@ use Rattle.written_tokens.specs.FileTokens.{section_tokens}
 use Rattle.written_forms.specs.Raw.{IsRawName, at}
 use Rattle.written_forms.proofs.Trees.{rowed_as, group_formed, Led, led, led_rowed, none_rowed}
 use Rattle.written_forms.proofs.Names.{word_is}
-use Rattle.written_files.proofs.Each.{TreeOf, RowOf, row_as, in_front, Section, begun, section_of, ReadsOne, reads_one}
+use Rattle.written_files.proofs.Each.{TreeOf, RowOf, in_front, Section, section_of, ReadsOne, reads_one}
 
 -- ---- which sections stand
 

@@ -1,18 +1,15 @@
 -- Written declarations are read as they are.
 use Rattle.std.proofs.Common.{◌≡◌, ℕ, ◌+◌, Bool, true, false, List, [], ◌∷◌, ◌++◌, refl, sym, ap, ◌∙◌, append_assoc, append-nil}
 use Rattle.std.specs.Prelude.{codes, decimal, flat_map, not}
-use Rattle.std.specs.Str.{bytes_eq}
 use Rattle.up_text.specs.declared.name.Name.{Name}
 use Rattle.up_text.specs.declared.place.Place.{Place}
 use Rattle.up_text.specs.Names.{IsName, is_reserved, reserved_words}
 use Rattle.up_text.specs.Lists.{Every}
-use Rattle.up_tree.specs.declared.term.Typed.{Typed}
 use Rattle.up_tree.specs.declared.problem.Predicate.{Predicate}
 use Rattle.up_tree.specs.declared.problem.Function.{Function}
 use Rattle.up_tree.specs.declared.problem.Gives.{Gives}
 use Rattle.up_tree.specs.declared.problem.Gives.TheVariants as gives
 use Rattle.pddl_lex.specs.declared.tree.Sign.TheVariants as sign
-use Rattle.pddl_lex.specs.declared.tree.Token.{Token}
 use Rattle.pddl_lex.specs.declared.tree.TokenKind.{TokenKind}
 use Rattle.pddl_lex.specs.declared.tree.TokenKind.TheVariants as kind
 use Rattle.pddl_lex.specs.declared.tree.Sexp.{Sexp, Group}
@@ -28,22 +25,22 @@ use Rattle.pddl_parse.specs.Brackets.{short, is_word}
 use Rattle.pddl_parse.specs.TypedLists.{is_minus, ends_after, ends_in_minus, variable_list}
 use Rattle.pddl_parse.specs.TypedLists as lists
 use Rattle.pddl_parse.specs.Symbols as parse
-use Rattle.pddl_parse.specs.Forms.{leaf, ident_at, AreTyped}
-use Rattle.pddl_parse.proofs.Nodes.{bracket-Group, is_minus-Group, is_minus-Leaf, variables-Group, is_word-Leaf}
+use Rattle.pddl_parse.specs.Forms.{ident_at}
+use Rattle.pddl_parse.proofs.Nodes.{bracket-Group, is_minus-Group, variables-Group}
 use Rattle.pddl_parse.proofs.Read.{ident_read}
 use Rattle.pddl_write.specs.Files.{gives_text}
-use Rattle.written_tokens.specs.Tokens.{group, variables_tokens, type_tokens}
+use Rattle.written_tokens.specs.Tokens.{variables_tokens, type_tokens}
 use Rattle.written_tokens.specs.FileTokens.{declared_tokens, signature_tokens, predicate_tokens, function_tokens}
 use Rattle.written_tokens.proofs.Declared.{numbered_spelled}
-use Rattle.written_forms.specs.Raw.{IsEmpty, empty, IsFirst, first, at, AreRawGroups}
-use Rattle.written_forms.proofs.Trees.{Formed, formed_as, none_rowed, rowed_as, group_formed, leaf_formed, Led, led, led_rowed}
+use Rattle.written_forms.specs.Raw.{IsEmpty, empty, IsFirst, first, at}
+use Rattle.written_forms.proofs.Trees.{formed_as, none_rowed, rowed_as, group_formed, leaf_formed, Led, led, led_rowed}
 use Rattle.written_forms.proofs.Names.{word_is, AllNamed}
 use Rattle.written_forms.proofs.EffectWords.{IsFree, free}
 use Rattle.written_forms.proofs.Terms.{SpellsName, spells_name, name_formed}
 use Rattle.written_forms.proofs.Groups.{SpellGroups, spell_groups, groups_rowed}
 use Rattle.written_forms.proofs.Rows.{variables_read}
 use Rattle.written_files.specs.RawFiles.{AreEach, numbered, IsRawSymbol, IsRawPredicate, IsRawSignature, IsRawGives, gives_number, gives_object, AreRawFunctions, no_functions, more_functions, one_group}
-use Rattle.written_files.proofs.Each.{TreeOf, RowOf, row_as, tree_as, in_front, ReadsOne, reads_one, ReadsAll, reads_all, each_read}
+use Rattle.written_files.proofs.Each.{TreeOf, RowOf, row_as, in_front, ReadsOne, reads_one, ReadsAll, each_read}
 
 -- ---- numbered variables
 
@@ -81,7 +78,6 @@ list_parts false place items v groups is = (refl, is)
 -- a tree that is read as a symbol of which this is so, and is no dash
 pub data ReadsSymbol (P : RawSymbol → Type 0) (tree : Sexp) : Type 0 where
   reads_symbol : (s : RawSymbol) → parse.symbol tree ≡ fine s → is_minus tree ≡ false → P s → ReadsSymbol P tree
-
 
 symbol_made : (typed : Bool) (name : Name) (args : List Name) (place : Place) (trees : List Sexp)
     → IsFirst (SpellsName name) (SpellGroups typed (numbered 1 args)) trees → ReadsSymbol (IsRawSymbol typed name args) (Group place trees)

@@ -1,5 +1,5 @@
 -- What well-formedness says of the names of a problem's parts.
-use Rattle.std.proofs.Common.{map, List, [], ◌∷◌, take}
+use Rattle.std.proofs.Common.{List, take}
 use Rattle.std.specs.Prelude.{drop}
 use Rattle.up_text.specs.declared.name.Name.{Name}
 use Rattle.up_text.specs.Names.{IsName}

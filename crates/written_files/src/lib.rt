@@ -2,3 +2,5 @@
 #![tactic(auto)]
 
 mod laws;
+
+pub use laws::{domain_is_formed, domain_is_read, problem_is_formed, problem_is_read};
