@@ -1,6 +1,6 @@
 -- The written domain is read as its abstract syntax.
 use Rattle.std.proofs.Common.{◌≡◌, ℕ, Bool, true, false, List, [], ◌∷◌, ◌++◌, refl, ap, sym, subst, ◌∙◌, append_assoc, append-nil, take}
-use Rattle.std.specs.Prelude.{codes, flat_map, ◌&&◌, ◌||◌, Some}
+use Rattle.std.specs.Prelude.{codes, flat_map, ◌&&◌, Some}
 use Rattle.std.specs.Str.{bytes_eq}
 use Rattle.up_text.specs.declared.place.Place.{Place}
 use Rattle.up_text.specs.Names.{IsName}
@@ -11,7 +11,7 @@ use Rattle.up_tree.specs.declared.problem.Predicate.{Predicate}
 use Rattle.up_tree.specs.declared.problem.Function.{Function}
 use Rattle.up_tree.specs.declared.problem.Parts.{Parts}
 use Rattle.up_tree.specs.WellFormed.{IsAction, IsWellFormed}
-use Rattle.up_kind.specs.declared.feature.Feature.TheVariants.{FlatTyping, HierarchicalTyping, NegativeConditions, DisjunctiveConditions, Equalities, ExistentialConditions, UniversalConditions, ConditionalEffects, ForallEffects, ObjectFluents, NumericFluents, TrajectoryConstraints}
+use Rattle.up_kind.specs.declared.feature.Feature.TheVariants.{FlatTyping, ObjectFluents}
 use Rattle.up_kind.specs.Features.{FeatureSet}
 use Rattle.up_kind.specs.Carried.{carries}
 use Rattle.pddl_lex.specs.declared.tree.TokenKind.{TokenKind}
@@ -31,15 +31,14 @@ use Rattle.pddl_parse.specs.declared.section.DomainSection.{DomainSection}
 use Rattle.pddl_parse.specs.declared.section.DomainSection.TheVariants as section
 use Rattle.pddl_parse.specs.Actions.{action}
 use Rattle.pddl_parse.specs.Symbols as symbols
-use Rattle.pddl_parse.specs.Sections.{is_known, requirements, stands_once, domain_key, domain_body, in_domain_section, domain_section, domain_sections}
+use Rattle.pddl_parse.specs.Sections.{stands_once, domain_key, domain_body, in_domain_section, domain_section, domain_sections}
 use Rattle.pddl_parse.specs.Brackets.{has_section}
 use Rattle.pddl_parse.specs.Texts.{title, with_section, with_sections, in_domain_text, domain, bare_domain}
 use Rattle.pddl_parse.specs.Forms.{leaf}
 use Rattle.pddl_parse.proofs.Nodes.{bracket-Group, keyword_of-Leaf, is_word-Leaf}
 use Rattle.written_tokens.specs.Tokens.{group, object_tokens}
 use Rattle.written_tokens.specs.EffectTokens.{action_tokens}
-use Rattle.written_tokens.specs.FileTokens.{section_tokens, define_tokens, keyword_if, requirements_tokens, predicate_tokens, function_tokens, domain_tokens_with, domain_tokens}
-use Rattle.written_tokens.proofs.Named.{every-append}
+use Rattle.written_tokens.specs.FileTokens.{section_tokens, define_tokens, requirements_tokens, predicate_tokens, function_tokens, domain_tokens_with, domain_tokens}
 use Rattle.written_forms.specs.Laws.{SpellsAction}
 use Rattle.written_forms.specs.Raw.{IsEmpty, empty, IsFirst, first, IsRawName, AreRawGroups, no_groups}
 use Rattle.written_forms.specs.RawEffects.{IsRawAction}
@@ -48,9 +47,10 @@ use Rattle.written_forms.proofs.Actions.{actions_are_formed}
 use Rattle.written_files.specs.RawFiles.{AreEach, IsRawPredicate, AreRawFunctions, no_functions, IsRawDomainWith}
 use Rattle.written_files.specs.Laws.{SpellsDomain, DomainsAreFormed}
 use Rattle.written_files.proofs.Wellnamed as known
-use Rattle.written_files.proofs.Each.{TreeOf, RowOf, tree_as, in_front, Section, begun, section_of, ReadsOne, reads_one, ReadsAll, reads_all}
+use Rattle.written_files.proofs.Each.{TreeOf, RowOf, tree_as, in_front, Section, begun, ReadsOne, reads_one, ReadsAll, reads_all}
 use Rattle.written_files.proofs.Lists.{ReadsList, reads_list, list_read}
 use Rattle.written_files.proofs.Symbols.{predicates_read, ReadsFunctions, reads_functions, functions_read}
+use Rattle.written_files.proofs.Requirements.{AreRequirements, requirements_read}
 use Rattle.written_files.proofs.Sections.{NoneOf, none_behind, none_before, and_false, title_read, section_rowed}
 
 -- trees that are read as sections behind others, where none of those due stands yet, and bring a form of which `In`
@@ -85,69 +85,6 @@ left_out word due In Mid Out skips trees (reads ss so goes) = reads ss (λ befor
 
 pub of_empty : {X : Type 0} (P : List X → Type 0) (xs : List X) → IsEmpty xs → P [] → P xs
 of_empty P _ empty is = is
-
--- ---- requirements
-
--- keywords that are known as requirements
-abbrev IsKnown : TokenKind → Type 0
-IsKnown (kind.Keyword word) = is_known word ≡ true
-IsKnown k = ⊥
-
--- trees that are read as requirements
-abbrev AreRequirements : List Sexp → Type 0
-AreRequirements trees = requirements section.Requirements trees ≡ fine section.Requirements
-
-required : (ks : List TokenKind) → Every IsKnown ks → RowOf ks (λ trees. requirements section.Requirements trees ≡ fine section.Requirements)
-required [] all = λ tokens kinds. none_rowed tokens kinds (λ trees. requirements section.Requirements trees ≡ fine section.Requirements) refl
-required (kind.Keyword word ∷ ks) all = λ tokens kinds.
-    rowed_as (led_rowed (kind.Keyword word) refl ks (λ trees. requirements section.Requirements trees ≡ fine section.Requirements) (required ks all.1) tokens kinds) (more word all.0)
-  where
-    more : (word : List ℕ) → is_known word ≡ true → (trees : List Sexp) → Led (kind.Keyword word) (λ trees. requirements section.Requirements trees ≡ fine section.Requirements) trees
-        → requirements section.Requirements trees ≡ fine section.Requirements
-    more word known _ (led place rest so) = rw (keyword_of-Leaf, known) so
-required (_ ∷ ks) all = absurd all.0
-
-if_known : (b : Bool) (word : List ℕ) → is_known word ≡ true → Every IsKnown (keyword_if b word)
-if_known true word known = (known, tt)
-if_known false word known = tt
-
-record AreKnown (ks : List TokenKind) : Type 0 where
-  each : Every IsKnown ks
-
-and_if : {ks : List TokenKind} → AreKnown ks → (b : Bool) (word : List ℕ) → is_known word ≡ true → AreKnown (ks ++ keyword_if b word)
-and_if {ks} known b word is = record { each = every-append IsKnown ks (keyword_if b word) known.each (if_known b word is) }
-
-strips_known : AreKnown (kind.Keyword (codes "strips") ∷ [])
-strips_known = record { each = (refl, tt) }
-
--- what stands behind `:requirements`
-abbrev requirement_tokens : FeatureSet → List TokenKind
-requirement_tokens f =
-    kind.Keyword (codes "strips") ∷ []
-    ++ keyword_if (f FlatTyping || f HierarchicalTyping) (codes "typing")
-    ++ keyword_if (f NegativeConditions) (codes "negative-preconditions")
-    ++ keyword_if (f DisjunctiveConditions) (codes "disjunctive-preconditions")
-    ++ keyword_if (f Equalities) (codes "equality")
-    ++ keyword_if (f ExistentialConditions) (codes "existential-preconditions")
-    ++ keyword_if (f UniversalConditions) (codes "universal-preconditions")
-    ++ keyword_if (f ConditionalEffects || f ForallEffects) (codes "conditional-effects")
-    ++ keyword_if (f NumericFluents) (codes "numeric-fluents")
-    ++ keyword_if (f ObjectFluents) (codes "object-fluents")
-    ++ keyword_if (f TrajectoryConstraints) (codes "constraints")
-
-requirements_known : (f : FeatureSet) → Every IsKnown (requirement_tokens f)
-requirements_known f =
-    let typing = and_if strips_known (f FlatTyping || f HierarchicalTyping) (codes "typing") refl in
-    let negative = and_if typing (f NegativeConditions) (codes "negative-preconditions") refl in
-    let disjunctive = and_if negative (f DisjunctiveConditions) (codes "disjunctive-preconditions") refl in
-    let equality = and_if disjunctive (f Equalities) (codes "equality") refl in
-    let existential = and_if equality (f ExistentialConditions) (codes "existential-preconditions") refl in
-    let universal = and_if existential (f UniversalConditions) (codes "universal-preconditions") refl in
-    let conditional = and_if universal (f ConditionalEffects || f ForallEffects) (codes "conditional-effects") refl in
-    let numeric = and_if conditional (f NumericFluents) (codes "numeric-fluents") refl in
-    let objects = and_if numeric (f ObjectFluents) (codes "object-fluents") refl in
-    let constraints = and_if objects (f TrajectoryConstraints) (codes "constraints") refl in
-    constraints.each
 
 -- ---- what the sections fill
 
@@ -218,10 +155,59 @@ module _ (p : Parts) (well : IsWellFormed p) (f : FeatureSet) where
   abbrev Functions : List RawFunctions → Type 0
   Functions xs = AreRawFunctions (f FlatTyping) (f ObjectFluents) p.functions xs
 
-  from_actions : RowOf (flat_map (action_tokens (f FlatTyping)) p.actions) (Reads [] (Filled p Types Constants Predicates Functions) (IsRawDomainWith f p))
+  -- the kinds of the tokens from each section on, forms at which a section is due, and what their trees are read as
+  abbrev action_kinds : List TokenKind
+  action_kinds = flat_map (action_tokens (f FlatTyping)) p.actions
+
+  abbrev function_kinds : List TokenKind
+  function_kinds = section_tokens (codes "functions") (function_tokens (f FlatTyping) (f ObjectFluents)) p.functions ++ action_kinds
+
+  abbrev predicate_kinds : List TokenKind
+  predicate_kinds = section_tokens (codes "predicates") (predicate_tokens (f FlatTyping)) p.predicates ++ function_kinds
+
+  abbrev constant_kinds : List TokenKind
+  constant_kinds = section_tokens (codes "constants") (object_tokens (f FlatTyping)) (take p.constants p.objects) ++ predicate_kinds
+
+  abbrev type_kinds : List TokenKind
+  type_kinds = section_tokens (codes "types") (object_tokens true) p.types ++ constant_kinds
+
+  abbrev AtTypes : DomainForm → Type 0
+  AtTypes form = Filled p IsEmpty IsEmpty IsEmpty IsEmpty form
+
+  abbrev AtConstants : DomainForm → Type 0
+  AtConstants form = Filled p Types IsEmpty IsEmpty IsEmpty form
+
+  abbrev AtPredicates : DomainForm → Type 0
+  AtPredicates form = Filled p Types Constants IsEmpty IsEmpty form
+
+  abbrev AtFunctions : DomainForm → Type 0
+  AtFunctions form = Filled p Types Constants Predicates IsEmpty form
+
+  abbrev AtActions : DomainForm → Type 0
+  AtActions form = Filled p Types Constants Predicates Functions form
+
+  abbrev FromActions : List Sexp → Type 0
+  FromActions trees = Reads [] AtActions (IsRawDomainWith f p) trees
+
+  abbrev FromFunctions : List Sexp → Type 0
+  FromFunctions trees = Reads (codes "functions" ∷ []) AtFunctions (IsRawDomainWith f p) trees
+
+  abbrev FromPredicates : List Sexp → Type 0
+  FromPredicates trees = Reads (codes "predicates" ∷ codes "functions" ∷ []) AtPredicates (IsRawDomainWith f p) trees
+
+  abbrev FromConstants : List Sexp → Type 0
+  FromConstants trees = Reads (codes "constants" ∷ codes "predicates" ∷ codes "functions" ∷ []) AtConstants (IsRawDomainWith f p) trees
+
+  abbrev FromTypes : List Sexp → Type 0
+  FromTypes trees = Reads (codes "types" ∷ codes "constants" ∷ codes "predicates" ∷ codes "functions" ∷ []) AtTypes (IsRawDomainWith f p) trees
+
+  abbrev FromRequirements : List Sexp → Type 0
+  FromRequirements trees = Reads (codes "requirements" ∷ codes "types" ∷ codes "constants" ∷ codes "predicates" ∷ codes "functions" ∷ []) AtTypes (IsRawDomainWith f p) trees
+
+  from_actions : RowOf action_kinds FromActions
   from_actions tokens kinds = rowed_as (actions_read (f FlatTyping) p.actions (known.actions p well) tokens kinds) whole
     where
-      whole : (trees : List Sexp) → ReadsActions (f FlatTyping) p.actions trees → Reads [] (Filled p Types Constants Predicates Functions) (IsRawDomainWith f p) trees
+      whole : (trees : List Sexp) → ReadsActions (f FlatTyping) p.actions trees → FromActions trees
       whole trees (reads_actions acts ss read goes so) =
           reads ss (λ before clear. read before)
           (λ form ready. subst (IsRawDomainWith f p) (sym (goes form)) (record {
@@ -234,17 +220,14 @@ module _ (p : Parts) (well : IsWellFormed p) (f : FeatureSet) where
             constraints = ready.constraints;
           }))
 
-  from_functions : RowOf (section_tokens (codes "functions") (function_tokens (f FlatTyping) (f ObjectFluents)) p.functions ++ (flat_map (action_tokens (f FlatTyping)) p.actions))
-      (Reads (codes "functions" ∷ []) (Filled p Types Constants Predicates IsEmpty) (IsRawDomainWith f p))
+  from_functions : RowOf function_kinds FromFunctions
   from_functions =
-      section_rowed (codes "functions") (function_tokens (f FlatTyping) (f ObjectFluents)) (ReadsFunctions (f FlatTyping) (f ObjectFluents) p.functions) (Reads [] (Filled p Types Constants Predicates Functions) (IsRawDomainWith f p))
-      (Reads (codes "functions" ∷ []) (Filled p Types Constants Predicates IsEmpty) (IsRawDomainWith f p)) (flat_map (action_tokens (f FlatTyping)) p.actions)
+      section_rowed (codes "functions") (function_tokens (f FlatTyping) (f ObjectFluents)) (ReadsFunctions (f FlatTyping) (f ObjectFluents) p.functions) FromActions FromFunctions action_kinds
       from_actions p.functions absent (functions_read (f FlatTyping) (f ObjectFluents) p.functions (known.functions p well)) present
     where
-      absent : p.functions ≡ [] → (trees : List Sexp) → Reads [] (Filled p Types Constants Predicates Functions) (IsRawDomainWith f p) trees
-          → Reads (codes "functions" ∷ []) (Filled p Types Constants Predicates IsEmpty) (IsRawDomainWith f p) trees
+      absent : p.functions ≡ [] → (trees : List Sexp) → FromActions trees → FromFunctions trees
       absent e =
-          left_out (codes "functions") [] (Filled p Types Constants Predicates IsEmpty) (Filled p Types Constants Predicates Functions) (IsRawDomainWith f p)
+          left_out (codes "functions") [] AtFunctions AtActions (IsRawDomainWith f p)
           (λ form ready. record {
             name = ready.name;
             types = ready.types;
@@ -256,9 +239,9 @@ module _ (p : Parts) (well : IsWellFormed p) (f : FeatureSet) where
           })
 
       present : (tree : Sexp) (trees : List Sexp) → Section (codes "functions") (ReadsFunctions (f FlatTyping) (f ObjectFluents) p.functions) tree
-          → Reads [] (Filled p Types Constants Predicates Functions) (IsRawDomainWith f p) trees → Reads (codes "functions" ∷ []) (Filled p Types Constants Predicates IsEmpty) (IsRawDomainWith f p) (tree ∷ trees)
+          → FromActions trees → FromFunctions (tree ∷ trees)
       present _ trees (begun place there rest (reads_functions groups is raws)) =
-          once (codes "functions") key.Functions refl [] tt (Filled p Types Constants Predicates IsEmpty) (Filled p Types Constants Predicates Functions) (IsRawDomainWith f p)
+          once (codes "functions") key.Functions refl [] tt AtFunctions AtActions (IsRawDomainWith f p)
           place there rest (section.Functions groups) (λ at. rw (is at) refl)
           (λ form ready. record {
             name = ready.name;
@@ -270,17 +253,14 @@ module _ (p : Parts) (well : IsWellFormed p) (f : FeatureSet) where
             constraints = ready.constraints;
           }) trees
 
-  from_predicates : RowOf (section_tokens (codes "predicates") (predicate_tokens (f FlatTyping)) p.predicates ++ (section_tokens (codes "functions") (function_tokens (f FlatTyping) (f ObjectFluents)) p.functions ++ (flat_map (action_tokens (f FlatTyping)) p.actions)))
-      (Reads (codes "predicates" ∷ codes "functions" ∷ []) (Filled p Types Constants IsEmpty IsEmpty) (IsRawDomainWith f p))
+  from_predicates : RowOf predicate_kinds FromPredicates
   from_predicates =
-      section_rowed (codes "predicates") (predicate_tokens (f FlatTyping)) (ReadsAll symbols.symbol (AreEach (IsRawPredicate (f FlatTyping)) p.predicates IsEmpty)) (Reads (codes "functions" ∷ []) (Filled p Types Constants Predicates IsEmpty) (IsRawDomainWith f p))
-      (Reads (codes "predicates" ∷ codes "functions" ∷ []) (Filled p Types Constants IsEmpty IsEmpty) (IsRawDomainWith f p)) (section_tokens (codes "functions") (function_tokens (f FlatTyping) (f ObjectFluents)) p.functions ++ (flat_map (action_tokens (f FlatTyping)) p.actions))
+      section_rowed (codes "predicates") (predicate_tokens (f FlatTyping)) (ReadsAll symbols.symbol (AreEach (IsRawPredicate (f FlatTyping)) p.predicates IsEmpty)) FromFunctions FromPredicates function_kinds
       from_functions p.predicates absent (predicates_read (f FlatTyping) p.predicates (known.predicates p well)) present
     where
-      absent : p.predicates ≡ [] → (trees : List Sexp) → Reads (codes "functions" ∷ []) (Filled p Types Constants Predicates IsEmpty) (IsRawDomainWith f p) trees
-          → Reads (codes "predicates" ∷ codes "functions" ∷ []) (Filled p Types Constants IsEmpty IsEmpty) (IsRawDomainWith f p) trees
+      absent : p.predicates ≡ [] → (trees : List Sexp) → FromFunctions trees → FromPredicates trees
       absent e =
-          left_out (codes "predicates") (codes "functions" ∷ []) (Filled p Types Constants IsEmpty IsEmpty) (Filled p Types Constants Predicates IsEmpty) (IsRawDomainWith f p)
+          left_out (codes "predicates") (codes "functions" ∷ []) AtPredicates AtFunctions (IsRawDomainWith f p)
           (λ form ready. record {
             name = ready.name;
             types = ready.types;
@@ -292,9 +272,9 @@ module _ (p : Parts) (well : IsWellFormed p) (f : FeatureSet) where
           })
 
       present : (tree : Sexp) (trees : List Sexp) → Section (codes "predicates") (ReadsAll symbols.symbol (AreEach (IsRawPredicate (f FlatTyping)) p.predicates IsEmpty)) tree
-          → Reads (codes "functions" ∷ []) (Filled p Types Constants Predicates IsEmpty) (IsRawDomainWith f p) trees → Reads (codes "predicates" ∷ codes "functions" ∷ []) (Filled p Types Constants IsEmpty IsEmpty) (IsRawDomainWith f p) (tree ∷ trees)
+          → FromFunctions trees → FromPredicates (tree ∷ trees)
       present _ trees (begun place there rest (reads_all groups is raws)) =
-          once (codes "predicates") key.Predicates refl (codes "functions" ∷ []) (refl, tt) (Filled p Types Constants IsEmpty IsEmpty) (Filled p Types Constants Predicates IsEmpty) (IsRawDomainWith f p)
+          once (codes "predicates") key.Predicates refl (codes "functions" ∷ []) (refl, tt) AtPredicates AtFunctions (IsRawDomainWith f p)
           place there rest (section.Predicates groups) (λ at. rw is refl)
           (λ form ready. record {
             name = ready.name;
@@ -306,17 +286,14 @@ module _ (p : Parts) (well : IsWellFormed p) (f : FeatureSet) where
             constraints = ready.constraints;
           }) trees
 
-  from_constants : RowOf (section_tokens (codes "constants") (object_tokens (f FlatTyping)) (take p.constants p.objects) ++ (section_tokens (codes "predicates") (predicate_tokens (f FlatTyping)) p.predicates ++ (section_tokens (codes "functions") (function_tokens (f FlatTyping) (f ObjectFluents)) p.functions ++ (flat_map (action_tokens (f FlatTyping)) p.actions))))
-      (Reads (codes "constants" ∷ codes "predicates" ∷ codes "functions" ∷ []) (Filled p Types IsEmpty IsEmpty IsEmpty) (IsRawDomainWith f p))
+  from_constants : RowOf constant_kinds FromConstants
   from_constants =
-      section_rowed (codes "constants") (object_tokens (f FlatTyping)) (ReadsList (f FlatTyping) (take p.constants p.objects)) (Reads (codes "predicates" ∷ codes "functions" ∷ []) (Filled p Types Constants IsEmpty IsEmpty) (IsRawDomainWith f p))
-      (Reads (codes "constants" ∷ codes "predicates" ∷ codes "functions" ∷ []) (Filled p Types IsEmpty IsEmpty IsEmpty) (IsRawDomainWith f p)) (section_tokens (codes "predicates") (predicate_tokens (f FlatTyping)) p.predicates ++ (section_tokens (codes "functions") (function_tokens (f FlatTyping) (f ObjectFluents)) p.functions ++ (flat_map (action_tokens (f FlatTyping)) p.actions)))
+      section_rowed (codes "constants") (object_tokens (f FlatTyping)) (ReadsList (f FlatTyping) (take p.constants p.objects)) FromPredicates FromConstants predicate_kinds
       from_predicates (take p.constants p.objects) absent (list_read (f FlatTyping) (take p.constants p.objects) (known.constants p well) (known.constant_types p well)) present
     where
-      absent : (take p.constants p.objects) ≡ [] → (trees : List Sexp) → Reads (codes "predicates" ∷ codes "functions" ∷ []) (Filled p Types Constants IsEmpty IsEmpty) (IsRawDomainWith f p) trees
-          → Reads (codes "constants" ∷ codes "predicates" ∷ codes "functions" ∷ []) (Filled p Types IsEmpty IsEmpty IsEmpty) (IsRawDomainWith f p) trees
+      absent : (take p.constants p.objects) ≡ [] → (trees : List Sexp) → FromPredicates trees → FromConstants trees
       absent e =
-          left_out (codes "constants") (codes "predicates" ∷ codes "functions" ∷ []) (Filled p Types IsEmpty IsEmpty IsEmpty) (Filled p Types Constants IsEmpty IsEmpty) (IsRawDomainWith f p)
+          left_out (codes "constants") (codes "predicates" ∷ codes "functions" ∷ []) AtConstants AtPredicates (IsRawDomainWith f p)
           (λ form ready. record {
             name = ready.name;
             types = ready.types;
@@ -328,9 +305,9 @@ module _ (p : Parts) (well : IsWellFormed p) (f : FeatureSet) where
           })
 
       present : (tree : Sexp) (trees : List Sexp) → Section (codes "constants") (ReadsList (f FlatTyping) (take p.constants p.objects)) tree
-          → Reads (codes "predicates" ∷ codes "functions" ∷ []) (Filled p Types Constants IsEmpty IsEmpty) (IsRawDomainWith f p) trees → Reads (codes "constants" ∷ codes "predicates" ∷ codes "functions" ∷ []) (Filled p Types IsEmpty IsEmpty IsEmpty) (IsRawDomainWith f p) (tree ∷ trees)
+          → FromPredicates trees → FromConstants (tree ∷ trees)
       present _ trees (begun place there rest (reads_list groups is raws)) =
-          once (codes "constants") key.Constants refl (codes "predicates" ∷ codes "functions" ∷ []) (refl, (refl, tt)) (Filled p Types IsEmpty IsEmpty IsEmpty) (Filled p Types Constants IsEmpty IsEmpty) (IsRawDomainWith f p)
+          once (codes "constants") key.Constants refl (codes "predicates" ∷ codes "functions" ∷ []) (refl, (refl, tt)) AtConstants AtPredicates (IsRawDomainWith f p)
           place there rest (section.Constants groups) (λ at. rw (is at) refl)
           (λ form ready. record {
             name = ready.name;
@@ -342,17 +319,14 @@ module _ (p : Parts) (well : IsWellFormed p) (f : FeatureSet) where
             constraints = ready.constraints;
           }) trees
 
-  from_types : RowOf (section_tokens (codes "types") (object_tokens true) p.types ++ (section_tokens (codes "constants") (object_tokens (f FlatTyping)) (take p.constants p.objects) ++ (section_tokens (codes "predicates") (predicate_tokens (f FlatTyping)) p.predicates ++ (section_tokens (codes "functions") (function_tokens (f FlatTyping) (f ObjectFluents)) p.functions ++ (flat_map (action_tokens (f FlatTyping)) p.actions)))))
-      (Reads (codes "types" ∷ codes "constants" ∷ codes "predicates" ∷ codes "functions" ∷ []) (Filled p IsEmpty IsEmpty IsEmpty IsEmpty) (IsRawDomainWith f p))
+  from_types : RowOf type_kinds FromTypes
   from_types =
-      section_rowed (codes "types") (object_tokens true) (ReadsList true p.types) (Reads (codes "constants" ∷ codes "predicates" ∷ codes "functions" ∷ []) (Filled p Types IsEmpty IsEmpty IsEmpty) (IsRawDomainWith f p))
-      (Reads (codes "types" ∷ codes "constants" ∷ codes "predicates" ∷ codes "functions" ∷ []) (Filled p IsEmpty IsEmpty IsEmpty IsEmpty) (IsRawDomainWith f p)) (section_tokens (codes "constants") (object_tokens (f FlatTyping)) (take p.constants p.objects) ++ (section_tokens (codes "predicates") (predicate_tokens (f FlatTyping)) p.predicates ++ (section_tokens (codes "functions") (function_tokens (f FlatTyping) (f ObjectFluents)) p.functions ++ (flat_map (action_tokens (f FlatTyping)) p.actions))))
+      section_rowed (codes "types") (object_tokens true) (ReadsList true p.types) FromConstants FromTypes constant_kinds
       from_constants p.types absent (list_read true p.types (known.names p well).types (known.type_types p well)) present
     where
-      absent : p.types ≡ [] → (trees : List Sexp) → Reads (codes "constants" ∷ codes "predicates" ∷ codes "functions" ∷ []) (Filled p Types IsEmpty IsEmpty IsEmpty) (IsRawDomainWith f p) trees
-          → Reads (codes "types" ∷ codes "constants" ∷ codes "predicates" ∷ codes "functions" ∷ []) (Filled p IsEmpty IsEmpty IsEmpty IsEmpty) (IsRawDomainWith f p) trees
+      absent : p.types ≡ [] → (trees : List Sexp) → FromConstants trees → FromTypes trees
       absent e =
-          left_out (codes "types") (codes "constants" ∷ codes "predicates" ∷ codes "functions" ∷ []) (Filled p IsEmpty IsEmpty IsEmpty IsEmpty) (Filled p Types IsEmpty IsEmpty IsEmpty) (IsRawDomainWith f p)
+          left_out (codes "types") (codes "constants" ∷ codes "predicates" ∷ codes "functions" ∷ []) AtTypes AtConstants (IsRawDomainWith f p)
           (λ form ready. record {
             name = ready.name;
             types = of_empty Types form.types ready.types (subst (λ (ts : List Typed). AreRawGroups true ts []) (sym e) (no_groups true));
@@ -364,9 +338,9 @@ module _ (p : Parts) (well : IsWellFormed p) (f : FeatureSet) where
           })
 
       present : (tree : Sexp) (trees : List Sexp) → Section (codes "types") (ReadsList true p.types) tree
-          → Reads (codes "constants" ∷ codes "predicates" ∷ codes "functions" ∷ []) (Filled p Types IsEmpty IsEmpty IsEmpty) (IsRawDomainWith f p) trees → Reads (codes "types" ∷ codes "constants" ∷ codes "predicates" ∷ codes "functions" ∷ []) (Filled p IsEmpty IsEmpty IsEmpty IsEmpty) (IsRawDomainWith f p) (tree ∷ trees)
+          → FromConstants trees → FromTypes (tree ∷ trees)
       present _ trees (begun place there rest (reads_list groups is raws)) =
-          once (codes "types") key.Types refl (codes "constants" ∷ codes "predicates" ∷ codes "functions" ∷ []) (refl, (refl, (refl, tt))) (Filled p IsEmpty IsEmpty IsEmpty IsEmpty) (Filled p Types IsEmpty IsEmpty IsEmpty) (IsRawDomainWith f p)
+          once (codes "types") key.Types refl (codes "constants" ∷ codes "predicates" ∷ codes "functions" ∷ []) (refl, (refl, (refl, tt))) AtTypes AtConstants (IsRawDomainWith f p)
           place there rest (section.Types groups) (λ at. rw (is at) refl)
           (λ form ready. record {
             name = ready.name;
@@ -378,41 +352,38 @@ module _ (p : Parts) (well : IsWellFormed p) (f : FeatureSet) where
             constraints = ready.constraints;
           }) trees
 
-  from_requirements : RowOf (requirements_tokens f ++ (section_tokens (codes "types") (object_tokens true) p.types ++ (section_tokens (codes "constants") (object_tokens (f FlatTyping)) (take p.constants p.objects) ++ (section_tokens (codes "predicates") (predicate_tokens (f FlatTyping)) p.predicates ++ (section_tokens (codes "functions") (function_tokens (f FlatTyping) (f ObjectFluents)) p.functions ++ (flat_map (action_tokens (f FlatTyping)) p.actions))))))
-      (Reads (codes "requirements" ∷ codes "types" ∷ codes "constants" ∷ codes "predicates" ∷ codes "functions" ∷ []) (Filled p IsEmpty IsEmpty IsEmpty IsEmpty) (IsRawDomainWith f p))
+  from_requirements : RowOf (requirements_tokens f ++ type_kinds)
+      FromRequirements
   from_requirements =
-      in_front (requirements_tokens f) (section_tokens (codes "types") (object_tokens true) p.types ++ (section_tokens (codes "constants") (object_tokens (f FlatTyping)) (take p.constants p.objects) ++ (section_tokens (codes "predicates") (predicate_tokens (f FlatTyping)) p.predicates ++ (section_tokens (codes "functions") (function_tokens (f FlatTyping) (f ObjectFluents)) p.functions ++ (flat_map (action_tokens (f FlatTyping)) p.actions))))) (Section (codes "requirements") AreRequirements)
-      (Reads (codes "types" ∷ codes "constants" ∷ codes "predicates" ∷ codes "functions" ∷ []) (Filled p IsEmpty IsEmpty IsEmpty IsEmpty) (IsRawDomainWith f p)) (Reads (codes "requirements" ∷ codes "types" ∷ codes "constants" ∷ codes "predicates" ∷ codes "functions" ∷ []) (Filled p IsEmpty IsEmpty IsEmpty IsEmpty) (IsRawDomainWith f p))
-      (section_of (codes "requirements") (requirement_tokens f) AreRequirements (required (requirement_tokens f) (requirements_known f))) from_types present
+      in_front (requirements_tokens f) type_kinds (Section (codes "requirements") AreRequirements)
+      FromTypes FromRequirements
+      (requirements_read f) from_types present
     where
       present : (tree : Sexp) (trees : List Sexp) → Section (codes "requirements") AreRequirements tree
-          → Reads (codes "types" ∷ codes "constants" ∷ codes "predicates" ∷ codes "functions" ∷ []) (Filled p IsEmpty IsEmpty IsEmpty IsEmpty) (IsRawDomainWith f p) trees → Reads (codes "requirements" ∷ codes "types" ∷ codes "constants" ∷ codes "predicates" ∷ codes "functions" ∷ []) (Filled p IsEmpty IsEmpty IsEmpty IsEmpty) (IsRawDomainWith f p) (tree ∷ trees)
+          → FromTypes trees → FromRequirements (tree ∷ trees)
       present _ trees (begun place there rest is) =
-          once (codes "requirements") key.Requirements refl (codes "types" ∷ codes "constants" ∷ codes "predicates" ∷ codes "functions" ∷ []) (refl, (refl, (refl, (refl, tt)))) (Filled p IsEmpty IsEmpty IsEmpty IsEmpty) (Filled p IsEmpty IsEmpty IsEmpty IsEmpty) (IsRawDomainWith f p)
+          once (codes "requirements") key.Requirements refl (codes "types" ∷ codes "constants" ∷ codes "predicates" ∷ codes "functions" ∷ []) (refl, (refl, (refl, (refl, tt)))) AtTypes AtTypes (IsRawDomainWith f p)
           place there rest section.Requirements (λ at. is) (λ form ready. ready) trees
 
   -- a tree that is read as the domain
   data ReadsWhole : Sexp → Type 0 where
     reads_whole : (tree : Sexp) (form : DomainForm) → domain (tree ∷ []) ≡ fine form → IsRawDomainWith f p form → ReadsWhole tree
 
-  abbrev Sections : List Sexp → Type 0
-  Sections trees = Reads (codes "requirements" ∷ codes "types" ∷ codes "constants" ∷ codes "predicates" ∷ codes "functions" ∷ []) (Filled p IsEmpty IsEmpty IsEmpty IsEmpty) (IsRawDomainWith f p) trees
-
   domain_read : TreeOf (domain_tokens_with f p) ReadsWhole
   domain_read =
       tree_as (ap (λ (more : List TokenKind). group more) (sym (seven (define_tokens (codes "domain") p.domain) (requirements_tokens f) (section_tokens (codes "types") (object_tokens true) p.types)
       (section_tokens (codes "constants") (object_tokens (f FlatTyping)) (take p.constants p.objects)) (section_tokens (codes "predicates") (predicate_tokens (f FlatTyping)) p.predicates)
-      (section_tokens (codes "functions") (function_tokens (f FlatTyping) (f ObjectFluents)) p.functions) (flat_map (action_tokens (f FlatTyping)) p.actions))))
-      (λ tokens kinds. group_formed tokens (kind.Word (codes "define") ∷ (group (kind.Word (codes "domain") ∷ kind.Word p.domain ∷ []) ++ (requirements_tokens f ++ (section_tokens (codes "types") (object_tokens true) p.types ++ (section_tokens (codes "constants") (object_tokens (f FlatTyping)) (take p.constants p.objects) ++ (section_tokens (codes "predicates") (predicate_tokens (f FlatTyping)) p.predicates ++ (section_tokens (codes "functions") (function_tokens (f FlatTyping) (f ObjectFluents)) p.functions ++ (flat_map (action_tokens (f FlatTyping)) p.actions)))))))) kinds
-      (Led (kind.Word (codes "define")) (IsFirst (ReadsOne (title (codes "domain")) (IsRawName p.domain)) Sections))
-      (led_rowed (kind.Word (codes "define")) refl (group (kind.Word (codes "domain") ∷ kind.Word p.domain ∷ []) ++ (requirements_tokens f ++ (section_tokens (codes "types") (object_tokens true) p.types ++ (section_tokens (codes "constants") (object_tokens (f FlatTyping)) (take p.constants p.objects) ++ (section_tokens (codes "predicates") (predicate_tokens (f FlatTyping)) p.predicates ++ (section_tokens (codes "functions") (function_tokens (f FlatTyping) (f ObjectFluents)) p.functions ++ (flat_map (action_tokens (f FlatTyping)) p.actions)))))))
-      (IsFirst (ReadsOne (title (codes "domain")) (IsRawName p.domain)) Sections)
-      (in_front (group (kind.Word (codes "domain") ∷ kind.Word p.domain ∷ [])) (requirements_tokens f ++ (section_tokens (codes "types") (object_tokens true) p.types ++ (section_tokens (codes "constants") (object_tokens (f FlatTyping)) (take p.constants p.objects) ++ (section_tokens (codes "predicates") (predicate_tokens (f FlatTyping)) p.predicates ++ (section_tokens (codes "functions") (function_tokens (f FlatTyping) (f ObjectFluents)) p.functions ++ (flat_map (action_tokens (f FlatTyping)) p.actions))))))
-      (ReadsOne (title (codes "domain")) (IsRawName p.domain)) Sections (IsFirst (ReadsOne (title (codes "domain")) (IsRawName p.domain)) Sections)
+      (section_tokens (codes "functions") (function_tokens (f FlatTyping) (f ObjectFluents)) p.functions) action_kinds)))
+      (λ tokens kinds. group_formed tokens (kind.Word (codes "define") ∷ (group (kind.Word (codes "domain") ∷ kind.Word p.domain ∷ []) ++ (requirements_tokens f ++ type_kinds))) kinds
+      (Led (kind.Word (codes "define")) (IsFirst (ReadsOne (title (codes "domain")) (IsRawName p.domain)) FromRequirements))
+      (led_rowed (kind.Word (codes "define")) refl (group (kind.Word (codes "domain") ∷ kind.Word p.domain ∷ []) ++ (requirements_tokens f ++ type_kinds))
+      (IsFirst (ReadsOne (title (codes "domain")) (IsRawName p.domain)) FromRequirements)
+      (in_front (group (kind.Word (codes "domain") ∷ kind.Word p.domain ∷ [])) (requirements_tokens f ++ type_kinds)
+      (ReadsOne (title (codes "domain")) (IsRawName p.domain)) FromRequirements (IsFirst (ReadsOne (title (codes "domain")) (IsRawName p.domain)) FromRequirements)
       (title_read (codes "domain") refl p.domain well.domain) from_requirements first))
       ReadsWhole made)
     where
-      made : (place : Place) (trees : List Sexp) → Led (kind.Word (codes "define")) (IsFirst (ReadsOne (title (codes "domain")) (IsRawName p.domain)) Sections) trees → ReadsWhole (Group place trees)
+      made : (place : Place) (trees : List Sexp) → Led (kind.Word (codes "define")) (IsFirst (ReadsOne (title (codes "domain")) (IsRawName p.domain)) FromRequirements) trees → ReadsWhole (Group place trees)
       made place _ (led there _ (first second rest (reads_one name is named) (reads ss so goes))) =
           reads_whole (Group place (leaf (kind.Word (codes "define")) there ∷ second ∷ rest)) (with_sections (bare_domain name) ss)
           (rw (

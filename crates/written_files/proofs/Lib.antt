@@ -5,6 +5,7 @@ pub mod Facts
 pub mod Lists
 pub mod Problems
 pub mod Reading
+pub mod Requirements
 pub mod Sections
 pub mod Symbols
 pub mod Wellnamed

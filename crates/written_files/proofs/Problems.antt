@@ -164,9 +164,61 @@ module _ (p : Parts) (well : IsWellFormed p) (typed : Bool) where
 
   -- ---- the sections in order, from the last
 
-  from_metric : (m : Option Metric) → OnMetric p m → RowOf (metric_tokens m) (Reads (codes "metric" ∷ []) [] (Filled p Domain Objects Init Goal Constraints NoMetric) (Whole m))
+  -- the kinds of the tokens from each section on, parts at which a section is due, and what their trees are read as
+  abbrev constraint_kinds : List TokenKind
+  constraint_kinds = constraint_section typed p.constraints ++ metric_tokens p.metric
+
+  abbrev goal_kinds : List TokenKind
+  goal_kinds = group (kind.Keyword (codes "goal") ∷ formula_tokens typed p.goal) ++ constraint_kinds
+
+  abbrev init_kinds : List TokenKind
+  init_kinds = init_tokens p ++ goal_kinds
+
+  abbrev object_kinds : List TokenKind
+  object_kinds = section_tokens (codes "objects") (object_tokens typed) (drop p.constants p.objects) ++ init_kinds
+
+  abbrev domain_kinds : List TokenKind
+  domain_kinds = group (kind.Keyword (codes "domain") ∷ kind.Word p.domain ∷ []) ++ object_kinds
+
+  abbrev AtDomain : ProblemParts → Type 0
+  AtDomain parts = Filled p Unread IsEmpty Unread Unread NoConstraint NoMetric parts
+
+  abbrev AtObjects : ProblemParts → Type 0
+  AtObjects parts = Filled p Domain IsEmpty Unread Unread NoConstraint NoMetric parts
+
+  abbrev AtInit : ProblemParts → Type 0
+  AtInit parts = Filled p Domain Objects Unread Unread NoConstraint NoMetric parts
+
+  abbrev AtGoal : ProblemParts → Type 0
+  AtGoal parts = Filled p Domain Objects Init Unread NoConstraint NoMetric parts
+
+  abbrev AtConstraints : ProblemParts → Type 0
+  AtConstraints parts = Filled p Domain Objects Init Goal NoConstraint NoMetric parts
+
+  abbrev AtMetric : ProblemParts → Type 0
+  AtMetric parts = Filled p Domain Objects Init Goal Constraints NoMetric parts
+
+  abbrev FromMetric : List Sexp → Type 0
+  FromMetric trees = Reads (codes "metric" ∷ []) [] AtMetric (Whole p.metric) trees
+
+  abbrev FromConstraints : List Sexp → Type 0
+  FromConstraints trees = Reads (codes "constraints" ∷ codes "metric" ∷ []) [] AtConstraints (Whole p.metric) trees
+
+  abbrev FromGoal : List Sexp → Type 0
+  FromGoal trees = Reads (codes "goal" ∷ codes "constraints" ∷ codes "metric" ∷ []) (codes "goal" ∷ []) AtGoal (Whole p.metric) trees
+
+  abbrev FromInit : List Sexp → Type 0
+  FromInit trees = Reads (codes "init" ∷ codes "goal" ∷ codes "constraints" ∷ codes "metric" ∷ []) (codes "goal" ∷ []) AtInit (Whole p.metric) trees
+
+  abbrev FromObjects : List Sexp → Type 0
+  FromObjects trees = Reads (codes "objects" ∷ codes "init" ∷ codes "goal" ∷ codes "constraints" ∷ codes "metric" ∷ []) (codes "goal" ∷ []) AtObjects (Whole p.metric) trees
+
+  abbrev FromDomain : List Sexp → Type 0
+  FromDomain trees = Reads (codes "domain" ∷ codes "objects" ∷ codes "init" ∷ codes "goal" ∷ codes "constraints" ∷ codes "metric" ∷ []) (codes "domain" ∷ codes "goal" ∷ []) AtDomain (Whole p.metric) trees
+
+  from_metric : (m : Option Metric) → OnMetric p m → RowOf (metric_tokens m) (Reads (codes "metric" ∷ []) [] AtMetric (Whole m))
   from_metric None is = λ tokens kinds.
-      none_rowed tokens kinds (Reads (codes "metric" ∷ []) [] (Filled p Domain Objects Init Goal Constraints NoMetric) (Whole None))
+      none_rowed tokens kinds (Reads (codes "metric" ∷ []) [] AtMetric (Whole None))
       (reads [] (λ before clear. refl) (λ parts ready. record {
         name = ready.name;
         domain = ready.domain;
@@ -182,9 +234,9 @@ module _ (p : Parts) (well : IsWellFormed p) (typed : Bool) where
       (metric_read p (known.names p well) (known.objects p well) m is.0) tokens kinds))
       (present m)
     where
-      present : (m : Metric) (trees : List Sexp) → Alone (Section (codes "metric") (ReadsMetric m)) trees → Reads (codes "metric" ∷ []) [] (Filled p Domain Objects Init Goal Constraints NoMetric) (Whole (Some m)) trees
+      present : (m : Metric) (trees : List Sexp) → Alone (Section (codes "metric") (ReadsMetric m)) trees → Reads (codes "metric" ∷ []) [] AtMetric (Whole (Some m)) trees
       present m _ (alone _ (begun place there rest (reads_metric r reading sense so))) =
-          once (codes "metric") key.Metric refl [] tt [] [] (Filled p Domain Objects Init Goal Constraints NoMetric) (Whole (Some m)) (Whole (Some m))
+          once (codes "metric") key.Metric refl [] tt [] [] AtMetric (Whole (Some m)) (Whole (Some m))
           place there rest (section.Metric r) (λ at. rw (reading at) refl)
           (λ parts ready. record {
             name = ready.name;
@@ -196,14 +248,14 @@ module _ (p : Parts) (well : IsWellFormed p) (typed : Bool) where
             metric = a_metric m r sense so;
           }) [] (λ stand. tt) (reads [] (λ before clear. refl) (λ parts ready. ready) tt)
 
-  from_constraints : RowOf (constraint_section typed p.constraints ++ metric_tokens p.metric) (Reads (codes "constraints" ∷ codes "metric" ∷ []) [] (Filled p Domain Objects Init Goal NoConstraint NoMetric) (Whole p.metric))
+  from_constraints : RowOf constraint_kinds FromConstraints
   from_constraints =
-      constraints_rowed typed (Alone (ReadsWhole Constraints)) (Reads (codes "metric" ∷ []) [] (Filled p Domain Objects Init Goal Constraints NoMetric) (Whole p.metric)) (Reads (codes "constraints" ∷ codes "metric" ∷ []) [] (Filled p Domain Objects Init Goal NoConstraint NoMetric) (Whole p.metric)) (metric_tokens p.metric)
+      constraints_rowed typed (Alone (ReadsWhole Constraints)) FromMetric FromConstraints (metric_tokens p.metric)
       (from_metric p.metric well.metric) p.constraints absent (constraints_read p (known.names p well) (known.objects p well) typed p.constraints well.constraints) present
     where
-      absent : p.constraints ≡ [] → (trees : List Sexp) → Reads (codes "metric" ∷ []) [] (Filled p Domain Objects Init Goal Constraints NoMetric) (Whole p.metric) trees → Reads (codes "constraints" ∷ codes "metric" ∷ []) [] (Filled p Domain Objects Init Goal NoConstraint NoMetric) (Whole p.metric) trees
+      absent : p.constraints ≡ [] → (trees : List Sexp) → FromMetric trees → FromConstraints trees
       absent e =
-          left_out (codes "constraints") (codes "metric" ∷ []) [] (Filled p Domain Objects Init Goal NoConstraint NoMetric) (Filled p Domain Objects Init Goal Constraints NoMetric) (Whole p.metric)
+          left_out (codes "constraints") (codes "metric" ∷ []) [] AtConstraints AtMetric (Whole p.metric)
           (λ parts ready. record {
             name = ready.name;
             domain = ready.domain;
@@ -214,9 +266,9 @@ module _ (p : Parts) (well : IsWellFormed p) (typed : Bool) where
             metric = ready.metric;
           })
 
-      present : (tree : Sexp) (trees : List Sexp) → Section (codes "constraints") (Alone (ReadsWhole Constraints)) tree → Reads (codes "metric" ∷ []) [] (Filled p Domain Objects Init Goal Constraints NoMetric) (Whole p.metric) trees → Reads (codes "constraints" ∷ codes "metric" ∷ []) [] (Filled p Domain Objects Init Goal NoConstraint NoMetric) (Whole p.metric) (tree ∷ trees)
+      present : (tree : Sexp) (trees : List Sexp) → Section (codes "constraints") (Alone (ReadsWhole Constraints)) tree → FromMetric trees → FromConstraints (tree ∷ trees)
       present _ trees (begun place there _ (alone tree (reads_whole c reading so))) =
-          once (codes "constraints") key.Constraints refl (codes "metric" ∷ []) (refl, tt) [] [] (Filled p Domain Objects Init Goal NoConstraint NoMetric) (Filled p Domain Objects Init Goal Constraints NoMetric) (Whole p.metric)
+          once (codes "constraints") key.Constraints refl (codes "metric" ∷ []) (refl, tt) [] [] AtConstraints AtMetric (Whole p.metric)
           place there (tree ∷ []) (section.Constraints c) (λ at. rw reading refl)
           (λ parts ready. record {
             name = ready.name;
@@ -231,14 +283,14 @@ module _ (p : Parts) (well : IsWellFormed p) (typed : Bool) where
   goal_read : RowOf (formula_tokens typed p.goal) (Alone (SpellsFormula (IsRawFormula typed p.goal)))
   goal_read tokens kinds = alone_rowed (formula_formed p (known.names p well) p.objects (known.objects p well) typed [] tt p.goal well.goal tokens kinds)
 
-  from_goal : RowOf ((group (kind.Keyword (codes "goal") ∷ formula_tokens typed p.goal)) ++ (constraint_section typed p.constraints ++ metric_tokens p.metric)) (Reads (codes "goal" ∷ codes "constraints" ∷ codes "metric" ∷ []) (codes "goal" ∷ []) (Filled p Domain Objects Init Unread NoConstraint NoMetric) (Whole p.metric))
+  from_goal : RowOf goal_kinds FromGoal
   from_goal =
-      in_front (group (kind.Keyword (codes "goal") ∷ formula_tokens typed p.goal)) (constraint_section typed p.constraints ++ metric_tokens p.metric) (Section (codes "goal") (Alone (SpellsFormula (IsRawFormula typed p.goal)))) (Reads (codes "constraints" ∷ codes "metric" ∷ []) [] (Filled p Domain Objects Init Goal NoConstraint NoMetric) (Whole p.metric)) (Reads (codes "goal" ∷ codes "constraints" ∷ codes "metric" ∷ []) (codes "goal" ∷ []) (Filled p Domain Objects Init Unread NoConstraint NoMetric) (Whole p.metric))
+      in_front (group (kind.Keyword (codes "goal") ∷ formula_tokens typed p.goal)) constraint_kinds (Section (codes "goal") (Alone (SpellsFormula (IsRawFormula typed p.goal)))) FromConstraints FromGoal
       (section_of (codes "goal") (formula_tokens typed p.goal) (Alone (SpellsFormula (IsRawFormula typed p.goal))) goal_read) from_constraints present
     where
-      present : (tree : Sexp) (trees : List Sexp) → Section (codes "goal") (Alone (SpellsFormula (IsRawFormula typed p.goal))) tree → Reads (codes "constraints" ∷ codes "metric" ∷ []) [] (Filled p Domain Objects Init Goal NoConstraint NoMetric) (Whole p.metric) trees → Reads (codes "goal" ∷ codes "constraints" ∷ codes "metric" ∷ []) (codes "goal" ∷ []) (Filled p Domain Objects Init Unread NoConstraint NoMetric) (Whole p.metric) (tree ∷ trees)
+      present : (tree : Sexp) (trees : List Sexp) → Section (codes "goal") (Alone (SpellsFormula (IsRawFormula typed p.goal))) tree → FromConstraints trees → FromGoal (tree ∷ trees)
       present _ trees (begun place there _ (alone tree (spells_formula g is so))) =
-          once (codes "goal") key.Goal refl (codes "constraints" ∷ codes "metric" ∷ []) (refl, (refl, tt)) [] (codes "goal" ∷ []) (Filled p Domain Objects Init Unread NoConstraint NoMetric) (Filled p Domain Objects Init Goal NoConstraint NoMetric) (Whole p.metric)
+          once (codes "goal") key.Goal refl (codes "constraints" ∷ codes "metric" ∷ []) (refl, (refl, tt)) [] (codes "goal" ∷ []) AtGoal AtConstraints (Whole p.metric)
           place there (tree ∷ []) (section.Goal g) (λ at. rw (some_formula tree g is, formula_read tree g is) refl)
           (λ parts ready. record {
             name = ready.name;
@@ -250,14 +302,14 @@ module _ (p : Parts) (well : IsWellFormed p) (typed : Bool) where
             metric = ready.metric;
           }) trees (λ stand. (stands_first (codes "goal") refl place there (tree ∷ []) trees, tt))
 
-  from_init : RowOf ((init_tokens p) ++ ((group (kind.Keyword (codes "goal") ∷ formula_tokens typed p.goal)) ++ (constraint_section typed p.constraints ++ metric_tokens p.metric))) (Reads (codes "init" ∷ codes "goal" ∷ codes "constraints" ∷ codes "metric" ∷ []) (codes "goal" ∷ []) (Filled p Domain Objects Unread Unread NoConstraint NoMetric) (Whole p.metric))
+  from_init : RowOf init_kinds FromInit
   from_init =
-      in_front (init_tokens p) ((group (kind.Keyword (codes "goal") ∷ formula_tokens typed p.goal)) ++ (constraint_section typed p.constraints ++ metric_tokens p.metric)) (Section (codes "init") (ReadsAll initial Init)) (Reads (codes "goal" ∷ codes "constraints" ∷ codes "metric" ∷ []) (codes "goal" ∷ []) (Filled p Domain Objects Init Unread NoConstraint NoMetric) (Whole p.metric)) (Reads (codes "init" ∷ codes "goal" ∷ codes "constraints" ∷ codes "metric" ∷ []) (codes "goal" ∷ []) (Filled p Domain Objects Unread Unread NoConstraint NoMetric) (Whole p.metric))
+      in_front (init_tokens p) goal_kinds (Section (codes "init") (ReadsAll initial Init)) FromGoal FromInit
       (section_of (codes "init") (flat_map fact_tokens p.atoms ++ flat_map number_fact_tokens p.numbers ++ flat_map value_fact_tokens p.values) (ReadsAll initial Init) (init_read p (known.names p well) (known.objects p well) well.atoms well.numbers well.values)) from_goal present
     where
-      present : (tree : Sexp) (trees : List Sexp) → Section (codes "init") (ReadsAll initial Init) tree → Reads (codes "goal" ∷ codes "constraints" ∷ codes "metric" ∷ []) (codes "goal" ∷ []) (Filled p Domain Objects Init Unread NoConstraint NoMetric) (Whole p.metric) trees → Reads (codes "init" ∷ codes "goal" ∷ codes "constraints" ∷ codes "metric" ∷ []) (codes "goal" ∷ []) (Filled p Domain Objects Unread Unread NoConstraint NoMetric) (Whole p.metric) (tree ∷ trees)
+      present : (tree : Sexp) (trees : List Sexp) → Section (codes "init") (ReadsAll initial Init) tree → FromGoal trees → FromInit (tree ∷ trees)
       present _ trees (begun place there rest (reads_all inits is so)) =
-          once (codes "init") key.Init refl (codes "goal" ∷ codes "constraints" ∷ codes "metric" ∷ []) (refl, (refl, (refl, tt))) (codes "goal" ∷ []) (codes "goal" ∷ []) (Filled p Domain Objects Unread Unread NoConstraint NoMetric) (Filled p Domain Objects Init Unread NoConstraint NoMetric) (Whole p.metric)
+          once (codes "init") key.Init refl (codes "goal" ∷ codes "constraints" ∷ codes "metric" ∷ []) (refl, (refl, (refl, tt))) (codes "goal" ∷ []) (codes "goal" ∷ []) AtInit AtGoal (Whole p.metric)
           place there rest (section.Init inits) (λ at. rw is refl)
           (λ parts ready. record {
             name = ready.name;
@@ -269,14 +321,14 @@ module _ (p : Parts) (well : IsWellFormed p) (typed : Bool) where
             metric = ready.metric;
           }) trees (still (codes "goal" ∷ []) (Group place (leaf (kind.Keyword (codes "init")) there ∷ rest)) trees)
 
-  from_objects : RowOf (section_tokens (codes "objects") (object_tokens typed) (drop p.constants p.objects) ++ ((init_tokens p) ++ ((group (kind.Keyword (codes "goal") ∷ formula_tokens typed p.goal)) ++ (constraint_section typed p.constraints ++ metric_tokens p.metric)))) (Reads (codes "objects" ∷ codes "init" ∷ codes "goal" ∷ codes "constraints" ∷ codes "metric" ∷ []) (codes "goal" ∷ []) (Filled p Domain IsEmpty Unread Unread NoConstraint NoMetric) (Whole p.metric))
+  from_objects : RowOf object_kinds FromObjects
   from_objects =
-      section_rowed (codes "objects") (object_tokens typed) (ReadsList typed (drop p.constants p.objects)) (Reads (codes "init" ∷ codes "goal" ∷ codes "constraints" ∷ codes "metric" ∷ []) (codes "goal" ∷ []) (Filled p Domain Objects Unread Unread NoConstraint NoMetric) (Whole p.metric)) (Reads (codes "objects" ∷ codes "init" ∷ codes "goal" ∷ codes "constraints" ∷ codes "metric" ∷ []) (codes "goal" ∷ []) (Filled p Domain IsEmpty Unread Unread NoConstraint NoMetric) (Whole p.metric)) ((init_tokens p) ++ ((group (kind.Keyword (codes "goal") ∷ formula_tokens typed p.goal)) ++ (constraint_section typed p.constraints ++ metric_tokens p.metric)))
+      section_rowed (codes "objects") (object_tokens typed) (ReadsList typed (drop p.constants p.objects)) FromInit FromObjects init_kinds
       from_init (drop p.constants p.objects) absent (list_read typed (drop p.constants p.objects) (known.others p well) (known.other_types p well)) present
     where
-      absent : (drop p.constants p.objects) ≡ [] → (trees : List Sexp) → Reads (codes "init" ∷ codes "goal" ∷ codes "constraints" ∷ codes "metric" ∷ []) (codes "goal" ∷ []) (Filled p Domain Objects Unread Unread NoConstraint NoMetric) (Whole p.metric) trees → Reads (codes "objects" ∷ codes "init" ∷ codes "goal" ∷ codes "constraints" ∷ codes "metric" ∷ []) (codes "goal" ∷ []) (Filled p Domain IsEmpty Unread Unread NoConstraint NoMetric) (Whole p.metric) trees
+      absent : (drop p.constants p.objects) ≡ [] → (trees : List Sexp) → FromInit trees → FromObjects trees
       absent e =
-          left_out (codes "objects") (codes "init" ∷ codes "goal" ∷ codes "constraints" ∷ codes "metric" ∷ []) (codes "goal" ∷ []) (Filled p Domain IsEmpty Unread Unread NoConstraint NoMetric) (Filled p Domain Objects Unread Unread NoConstraint NoMetric) (Whole p.metric)
+          left_out (codes "objects") (codes "init" ∷ codes "goal" ∷ codes "constraints" ∷ codes "metric" ∷ []) (codes "goal" ∷ []) AtObjects AtInit (Whole p.metric)
           (λ parts ready. record {
             name = ready.name;
             domain = ready.domain;
@@ -287,9 +339,9 @@ module _ (p : Parts) (well : IsWellFormed p) (typed : Bool) where
             metric = ready.metric;
           })
 
-      present : (tree : Sexp) (trees : List Sexp) → Section (codes "objects") (ReadsList typed (drop p.constants p.objects)) tree → Reads (codes "init" ∷ codes "goal" ∷ codes "constraints" ∷ codes "metric" ∷ []) (codes "goal" ∷ []) (Filled p Domain Objects Unread Unread NoConstraint NoMetric) (Whole p.metric) trees → Reads (codes "objects" ∷ codes "init" ∷ codes "goal" ∷ codes "constraints" ∷ codes "metric" ∷ []) (codes "goal" ∷ []) (Filled p Domain IsEmpty Unread Unread NoConstraint NoMetric) (Whole p.metric) (tree ∷ trees)
+      present : (tree : Sexp) (trees : List Sexp) → Section (codes "objects") (ReadsList typed (drop p.constants p.objects)) tree → FromInit trees → FromObjects (tree ∷ trees)
       present _ trees (begun place there rest (reads_list groups is raws)) =
-          once (codes "objects") key.Objects refl (codes "init" ∷ codes "goal" ∷ codes "constraints" ∷ codes "metric" ∷ []) (refl, (refl, (refl, (refl, tt)))) (codes "goal" ∷ []) (codes "goal" ∷ []) (Filled p Domain IsEmpty Unread Unread NoConstraint NoMetric) (Filled p Domain Objects Unread Unread NoConstraint NoMetric) (Whole p.metric)
+          once (codes "objects") key.Objects refl (codes "init" ∷ codes "goal" ∷ codes "constraints" ∷ codes "metric" ∷ []) (refl, (refl, (refl, (refl, tt)))) (codes "goal" ∷ []) (codes "goal" ∷ []) AtObjects AtInit (Whole p.metric)
           place there rest (section.Objects groups) (λ at. rw (is at) refl)
           (λ parts ready. record {
             name = ready.name;
@@ -301,14 +353,14 @@ module _ (p : Parts) (well : IsWellFormed p) (typed : Bool) where
             metric = ready.metric;
           }) trees (still (codes "goal" ∷ []) (Group place (leaf (kind.Keyword (codes "objects")) there ∷ rest)) trees)
 
-  from_domain : RowOf ((group (kind.Keyword (codes "domain") ∷ kind.Word p.domain ∷ [])) ++ (section_tokens (codes "objects") (object_tokens typed) (drop p.constants p.objects) ++ ((init_tokens p) ++ ((group (kind.Keyword (codes "goal") ∷ formula_tokens typed p.goal)) ++ (constraint_section typed p.constraints ++ metric_tokens p.metric))))) (Reads (codes "domain" ∷ codes "objects" ∷ codes "init" ∷ codes "goal" ∷ codes "constraints" ∷ codes "metric" ∷ []) (codes "domain" ∷ codes "goal" ∷ []) (Filled p Unread IsEmpty Unread Unread NoConstraint NoMetric) (Whole p.metric))
+  from_domain : RowOf domain_kinds FromDomain
   from_domain =
-      in_front (group (kind.Keyword (codes "domain") ∷ kind.Word p.domain ∷ [])) (section_tokens (codes "objects") (object_tokens typed) (drop p.constants p.objects) ++ ((init_tokens p) ++ ((group (kind.Keyword (codes "goal") ∷ formula_tokens typed p.goal)) ++ (constraint_section typed p.constraints ++ metric_tokens p.metric)))) (Section (codes "domain") (Alone (ReadsOne ident (IsRawName p.domain)))) (Reads (codes "objects" ∷ codes "init" ∷ codes "goal" ∷ codes "constraints" ∷ codes "metric" ∷ []) (codes "goal" ∷ []) (Filled p Domain IsEmpty Unread Unread NoConstraint NoMetric) (Whole p.metric)) (Reads (codes "domain" ∷ codes "objects" ∷ codes "init" ∷ codes "goal" ∷ codes "constraints" ∷ codes "metric" ∷ []) (codes "domain" ∷ codes "goal" ∷ []) (Filled p Unread IsEmpty Unread Unread NoConstraint NoMetric) (Whole p.metric))
+      in_front (group (kind.Keyword (codes "domain") ∷ kind.Word p.domain ∷ [])) object_kinds (Section (codes "domain") (Alone (ReadsOne ident (IsRawName p.domain)))) FromObjects FromDomain
       (section_of (codes "domain") (kind.Word p.domain ∷ []) (Alone (ReadsOne ident (IsRawName p.domain))) (λ back there. alone_rowed (name_read p.domain well.domain back there))) from_objects present
     where
-      present : (tree : Sexp) (trees : List Sexp) → Section (codes "domain") (Alone (ReadsOne ident (IsRawName p.domain))) tree → Reads (codes "objects" ∷ codes "init" ∷ codes "goal" ∷ codes "constraints" ∷ codes "metric" ∷ []) (codes "goal" ∷ []) (Filled p Domain IsEmpty Unread Unread NoConstraint NoMetric) (Whole p.metric) trees → Reads (codes "domain" ∷ codes "objects" ∷ codes "init" ∷ codes "goal" ∷ codes "constraints" ∷ codes "metric" ∷ []) (codes "domain" ∷ codes "goal" ∷ []) (Filled p Unread IsEmpty Unread Unread NoConstraint NoMetric) (Whole p.metric) (tree ∷ trees)
+      present : (tree : Sexp) (trees : List Sexp) → Section (codes "domain") (Alone (ReadsOne ident (IsRawName p.domain))) tree → FromObjects trees → FromDomain (tree ∷ trees)
       present _ trees (begun place there _ (alone tree (reads_one d is so))) =
-          once (codes "domain") key.Domain refl (codes "objects" ∷ codes "init" ∷ codes "goal" ∷ codes "constraints" ∷ codes "metric" ∷ []) (refl, (refl, (refl, (refl, (refl, tt))))) (codes "goal" ∷ []) (codes "domain" ∷ codes "goal" ∷ []) (Filled p Unread IsEmpty Unread Unread NoConstraint NoMetric) (Filled p Domain IsEmpty Unread Unread NoConstraint NoMetric) (Whole p.metric)
+          once (codes "domain") key.Domain refl (codes "objects" ∷ codes "init" ∷ codes "goal" ∷ codes "constraints" ∷ codes "metric" ∷ []) (refl, (refl, (refl, (refl, (refl, tt))))) (codes "goal" ∷ []) (codes "domain" ∷ codes "goal" ∷ []) AtDomain AtObjects (Whole p.metric)
           place there (tree ∷ []) (section.Domain d) (λ at. rw is refl)
           (λ parts ready. record {
             name = ready.name;
@@ -343,9 +395,6 @@ module _ (p : Parts) (well : IsWellFormed p) (typed : Bool) where
   data ReadsText : Sexp → Type 0 where
     reads_text : (tree : Sexp) (form : ProblemForm) → problem (tree ∷ []) ≡ fine form → IsRawProblemWith typed p form → ReadsText tree
 
-  abbrev Sections : List Sexp → Type 0
-  Sections trees = Reads (codes "domain" ∷ codes "objects" ∷ codes "init" ∷ codes "goal" ∷ codes "constraints" ∷ codes "metric" ∷ []) (codes "domain" ∷ codes "goal" ∷ []) (Filled p Unread IsEmpty Unread Unread NoConstraint NoMetric) (Whole p.metric) trees
-
   text_made : (place there : Place) (second : Sexp) (rest : List Sexp) (name : Ident) → title (codes "problem") second ≡ fine name
       → (ss : List ProblemSection) → problem_sections [] rest ≡ fine ss → has_section (codes "domain") rest ≡ true → has_section (codes "goal") rest ≡ true
       → Completes place (put_sections (bare_problem name) ss).domain (put_sections (bare_problem name) ss).goal (put_sections (bare_problem name) ss)
@@ -358,16 +407,16 @@ module _ (p : Parts) (well : IsWellFormed p) (typed : Bool) where
   problem_read =
       tree_as (ap (λ (more : List TokenKind). group more) (sym (seven (define_tokens (codes "problem") p.name) (group (kind.Keyword (codes "domain") ∷ kind.Word p.domain ∷ [])) (section_tokens (codes "objects") (object_tokens typed) (drop p.constants p.objects))
       (init_tokens p) (group (kind.Keyword (codes "goal") ∷ formula_tokens typed p.goal)) (constraint_section typed p.constraints) (metric_tokens p.metric))))
-      (λ tokens kinds. group_formed tokens (kind.Word (codes "define") ∷ (group (kind.Word (codes "problem") ∷ kind.Word p.name ∷ []) ++ ((group (kind.Keyword (codes "domain") ∷ kind.Word p.domain ∷ [])) ++ (section_tokens (codes "objects") (object_tokens typed) (drop p.constants p.objects) ++ ((init_tokens p) ++ ((group (kind.Keyword (codes "goal") ∷ formula_tokens typed p.goal)) ++ (constraint_section typed p.constraints ++ metric_tokens p.metric))))))) kinds
-      (Led (kind.Word (codes "define")) (IsFirst (ReadsOne (title (codes "problem")) (IsRawName p.name)) Sections))
-      (led_rowed (kind.Word (codes "define")) refl (group (kind.Word (codes "problem") ∷ kind.Word p.name ∷ []) ++ ((group (kind.Keyword (codes "domain") ∷ kind.Word p.domain ∷ [])) ++ (section_tokens (codes "objects") (object_tokens typed) (drop p.constants p.objects) ++ ((init_tokens p) ++ ((group (kind.Keyword (codes "goal") ∷ formula_tokens typed p.goal)) ++ (constraint_section typed p.constraints ++ metric_tokens p.metric))))))
-      (IsFirst (ReadsOne (title (codes "problem")) (IsRawName p.name)) Sections)
-      (in_front (group (kind.Word (codes "problem") ∷ kind.Word p.name ∷ [])) ((group (kind.Keyword (codes "domain") ∷ kind.Word p.domain ∷ [])) ++ (section_tokens (codes "objects") (object_tokens typed) (drop p.constants p.objects) ++ ((init_tokens p) ++ ((group (kind.Keyword (codes "goal") ∷ formula_tokens typed p.goal)) ++ (constraint_section typed p.constraints ++ metric_tokens p.metric)))))
-      (ReadsOne (title (codes "problem")) (IsRawName p.name)) Sections (IsFirst (ReadsOne (title (codes "problem")) (IsRawName p.name)) Sections)
+      (λ tokens kinds. group_formed tokens (kind.Word (codes "define") ∷ (group (kind.Word (codes "problem") ∷ kind.Word p.name ∷ []) ++ domain_kinds)) kinds
+      (Led (kind.Word (codes "define")) (IsFirst (ReadsOne (title (codes "problem")) (IsRawName p.name)) FromDomain))
+      (led_rowed (kind.Word (codes "define")) refl (group (kind.Word (codes "problem") ∷ kind.Word p.name ∷ []) ++ domain_kinds)
+      (IsFirst (ReadsOne (title (codes "problem")) (IsRawName p.name)) FromDomain)
+      (in_front (group (kind.Word (codes "problem") ∷ kind.Word p.name ∷ [])) domain_kinds
+      (ReadsOne (title (codes "problem")) (IsRawName p.name)) FromDomain (IsFirst (ReadsOne (title (codes "problem")) (IsRawName p.name)) FromDomain)
       (title_read (codes "problem") refl p.name well.name) from_domain first))
       ReadsText made)
     where
-      made : (place : Place) (trees : List Sexp) → Led (kind.Word (codes "define")) (IsFirst (ReadsOne (title (codes "problem")) (IsRawName p.name)) Sections) trees → ReadsText (Group place trees)
+      made : (place : Place) (trees : List Sexp) → Led (kind.Word (codes "define")) (IsFirst (ReadsOne (title (codes "problem")) (IsRawName p.name)) FromDomain) trees → ReadsText (Group place trees)
       made place _ (led there _ (first second rest (reads_one name is named) (reads ss so goes stand))) =
           let ready : Whole p.metric (put_sections (bare_problem name) ss) = goes (bare_problem name) (record {
             name = named;
