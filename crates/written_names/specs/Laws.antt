@@ -1,0 +1,29 @@
+-- Laws of what names in written phrases are read as.
+use Rattle.std.specs.Prelude.{◌≡◌, ⊤, List, Option, Some, None, IsSomeAnd}
+use Rattle.up_text.specs.declared.name.Name.{Name}
+use Rattle.up_tree.specs.declared.term.Typed.{Typed}
+use Rattle.up_tree.specs.declared.term.Term.{Term}
+use Rattle.up_tree.specs.declared.problem.Parts.{Parts}
+use Rattle.up_tree.specs.WellFormed as tree
+use Rattle.up_tree.specs.WellFormed.{IsBelow, term_type}
+use Rattle.pddl_lex.specs.Verdicts.{fine}
+use Rattle.pddl_parse.specs.declared.raw.RawTerm.{RawTerm}
+use Rattle.up_phrase.specs.declared.term.Setting.TheVariants.{Plain}
+use Rattle.up_phrase.specs.Declarations.{Declarations}
+use Rattle.up_phrase.specs.Scopes.{Variables}
+use Rattle.up_phrase.specs.Terms as read
+use Rattle.written_forms.specs.Raw.{IsRawTerm}
+use Rattle.written_names.specs.Agree.{Agree, SameScope}
+
+-- the type is at or below the one due, where one is due
+abbrev pub IsDue : Parts → Option Name → Option Name → Type 0
+IsDue p of None = ⊤
+IsDue p of (Some due) = IsSomeAnd of (λ u. IsBelow p u due)
+
+-- the abstract syntax of a term is read as the term
+abbrev pub TermsAreNamed : Type 0
+TermsAreNamed =
+    (names : Declarations) (p : Parts) (objects : List Typed) → Agree names p objects
+    → (scope : List Typed) (vars : Variables) → SameScope scope vars
+    → (t : Term) → tree.IsTerm p objects scope t → (due : Option Name) → IsDue p (term_type p scope t) due
+    → (raw : RawTerm) → IsRawTerm t raw → read.term names vars Plain raw due ≡ fine t
