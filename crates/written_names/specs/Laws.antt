@@ -1,19 +1,24 @@
 -- Laws of what names in written phrases are read as.
-use Rattle.std.specs.Prelude.{◌≡◌, ⊤, List, Option, Some, None, IsSomeAnd}
+use Rattle.std.specs.Prelude.{◌≡◌, ⊤, Bool, List, Option, Some, None, IsSomeAnd}
 use Rattle.up_text.specs.declared.name.Name.{Name}
 use Rattle.up_tree.specs.declared.term.Typed.{Typed}
 use Rattle.up_tree.specs.declared.term.Term.{Term}
+use Rattle.up_tree.specs.declared.expr.Expr.{Expr}
+use Rattle.up_tree.specs.declared.formula.Formula.{Formula}
 use Rattle.up_tree.specs.declared.problem.Parts.{Parts}
 use Rattle.up_tree.specs.WellFormed as tree
 use Rattle.up_tree.specs.WellFormed.{IsBelow, term_type}
 use Rattle.pddl_lex.specs.Verdicts.{fine}
 use Rattle.pddl_parse.specs.declared.raw.RawTerm.{RawTerm}
+use Rattle.pddl_parse.specs.declared.raw.RawFormula.{RawFormula}
 use Rattle.up_phrase.specs.declared.term.Setting.TheVariants.{Plain}
 use Rattle.up_phrase.specs.Declarations.{Declarations}
 use Rattle.up_phrase.specs.Scopes.{Variables}
-use Rattle.up_phrase.specs.Terms as read
-use Rattle.written_forms.specs.Raw.{IsRawTerm}
-use Rattle.written_names.specs.Agree.{Agree, SameScope}
+use Rattle.up_phrase.specs.Terms.{term}
+use Rattle.up_phrase.specs.Exprs.{expr}
+use Rattle.up_phrase.specs.Conditions.{formula}
+use Rattle.written_forms.specs.Raw.{IsRawTerm, IsRawExpr, IsRawFormula}
+use Rattle.written_names.specs.Agree.{Agree, SameScope, TypesWritten}
 
 -- the type is at or below the one due, where one is due
 abbrev pub IsDue : Parts → Option Name → Option Name → Type 0
@@ -26,4 +31,18 @@ TermsAreNamed =
     (names : Declarations) (p : Parts) (objects : List Typed) → Agree names p objects
     → (scope : List Typed) (vars : Variables) → SameScope scope vars
     → (t : Term) → tree.IsTerm p objects scope t → (due : Option Name) → IsDue p (term_type p scope t) due
-    → (raw : RawTerm) → IsRawTerm t raw → read.term names vars Plain raw due ≡ fine t
+    → (raw : RawTerm) → IsRawTerm t raw → term names vars Plain raw due ≡ fine t
+
+-- the same of expressions
+abbrev pub ExpressionsAreNamed : Type 0
+ExpressionsAreNamed =
+    (names : Declarations) (p : Parts) (objects : List Typed) → Agree names p objects
+    → (scope : List Typed) (vars : Variables) → SameScope scope vars
+    → (x : Expr) → tree.IsExpr p objects scope x → (raw : RawTerm) → IsRawExpr x raw → expr names vars Plain raw ≡ fine x
+
+-- the same of conditions
+abbrev pub ConditionsAreNamed : Type 0
+ConditionsAreNamed =
+    (names : Declarations) (p : Parts) (objects : List Typed) → Agree names p objects → (typed : Bool) → TypesWritten typed p
+    → (scope : List Typed) (vars : Variables) → SameScope scope vars
+    → (f : Formula) → tree.IsFormula p objects scope f → (raw : RawFormula) → IsRawFormula typed f raw → formula names vars Plain raw ≡ fine f

@@ -1,7 +1,17 @@
-ghost use Rattle.written_names.specs.Laws.{TermsAreNamed};
+ghost use Rattle.written_names.specs.Laws.{ConditionsAreNamed, ExpressionsAreNamed, TermsAreNamed};
 
 /// A law: the abstract syntax of a term of a well formed problem is read as the term, where an object of its type or of one
 /// above it is due.
 pub fn terms_are_named()
     ensures { TermsAreNamed }
+{}
+
+/// A law: the abstract syntax of an expression of a well formed problem is read as the expression.
+pub fn expressions_are_named()
+    ensures { ExpressionsAreNamed }
+{}
+
+/// A law: the abstract syntax of a condition of a well formed problem is read as the condition.
+pub fn conditions_are_named()
+    ensures { ConditionsAreNamed }
 {}

@@ -3,4 +3,4 @@
 
 mod laws;
 
-pub use laws::terms_are_named;
+pub use laws::{conditions_are_named, expressions_are_named, terms_are_named};
