@@ -1,5 +1,5 @@
 -- The abstract syntax of a condition is read as the condition.
-use Rattle.std.proofs.Common.{◌≡◌, Bool, true, false, List, [], ◌∷◌, ◌++◌, map, Option, Some, None, option_map, refl, ap, sym, ◌∙◌}
+use Rattle.std.proofs.Common.{◌≡◌, Bool, true, false, List, ◌++◌, map, Some, None, option_map, refl, ap, sym, ◌∙◌}
 use Rattle.up_text.specs.declared.name.Name.{Name}
 use Rattle.up_text.specs.declared.place.Place.{Place}
 use Rattle.up_tree.specs.declared.term.Typed.{Typed}
@@ -8,7 +8,7 @@ use Rattle.up_tree.specs.declared.formula.Relation.{Relation}
 use Rattle.up_tree.specs.declared.formula.Relation.TheVariants as relation
 use Rattle.up_tree.specs.declared.formula.Formula.{Formula, And, And', Or, Or', Not, Imply, Exists, Forall, Atom, Equal, Compare, Row_of-Formula, end_of-Formula, more_of-Formula, items-the_row-Formula}
 use Rattle.up_tree.specs.declared.formula.Formula.TheBlock.{shown-the_row-Formula-0, items_shown-the_row-Formula-0}
-use Rattle.up_tree.specs.declared.formula.Formula.TheViews.{roll-Formula, out-Formula, roll-out-Formula, outs-And', rolls-And, outs-Or', rolls-Or}
+use Rattle.up_tree.specs.declared.formula.Formula.TheViews.{roll-Formula, roll-out-Formula, outs-And', rolls-And, outs-Or', rolls-Or}
 use denote.Hole.Carrier
 use Rattle.up_tree.specs.declared.problem.Predicate.{Predicate}
 use Rattle.up_tree.specs.declared.problem.Parts.{Parts}
@@ -16,7 +16,7 @@ use Rattle.up_tree.specs.Nodes.{not, imply, exists, forall, built}
 use Rattle.up_tree.specs.Objects.{predicate_named}
 use Rattle.up_tree.specs.WellFormed as tree
 use Rattle.up_tree.specs.WellFormed.{AreFormulas, AreVariables, TermsFit}
-use Rattle.pddl_lex.specs.Verdicts.{fine, over, over_two, all}
+use Rattle.pddl_lex.specs.Verdicts.{fine, over, all}
 use Rattle.pddl_parse.specs.declared.raw.Ident.{Ident}
 use Rattle.pddl_parse.specs.declared.raw.RawGroup.{RawGroup}
 use Rattle.pddl_parse.specs.declared.raw.Relation.TheVariants as stated
@@ -24,15 +24,14 @@ use Rattle.pddl_parse.specs.declared.raw.RawTerm.{RawTerm}
 use Rattle.pddl_parse.specs.declared.raw.RawFormula.{RawFormula}
 use Rattle.pddl_parse.specs.Forms.{ident_at}
 use Rattle.up_phrase.specs.declared.term.Setting.TheVariants.{Plain}
-use Rattle.up_phrase.specs.Conditions.{predicate, atom_args, is_numeric, is_equality, relation_of, related, quantifier, formula}
+use Rattle.up_phrase.specs.Conditions.{predicate, atom_args, is_numeric, is_equality, relation_of, quantifier, formula}
 use Rattle.up_phrase.specs.Declarations.{Declarations}
-use Rattle.up_phrase.specs.Exprs.{expr}
 use Rattle.up_phrase.specs.Lookups.{predicate_of}
-use Rattle.up_phrase.specs.Scopes.{Variables, entered_groups}
+use Rattle.up_phrase.specs.Scopes.{Variables}
 use Rattle.up_phrase.specs.Terms.{term}
 use Rattle.up_phrase.proofs.FormulaNodes.{formula-And, formula-Or, formula-Not, formula-Imply, formula-Exists, formula-Forall, formula-Atom, formula-Compare}
 use Rattle.written_tokens.proofs.Named.{found_and}
-use Rattle.written_forms.specs.Raw.{at, empty, first, AreRawGroups, IsRawTerm, AreRawTerms, IsRawExpr, an_and, an_or, a_not, an_imply, an_exists, a_forall, an_atom, a_compare, raw_relation, IsRawFormula, AreRawMembers}
+use Rattle.written_forms.specs.Raw.{at, empty, first, AreRawGroups, AreRawTerms, an_and, an_or, a_not, an_imply, an_exists, a_forall, an_atom, a_compare, raw_relation, IsRawFormula, AreRawMembers}
 use Rattle.written_names.specs.Agree.{entry, Agree, SameScope, TypesWritten}
 use Rattle.written_names.specs.Laws.{ConditionsAreNamed}
 use Rattle.written_names.proofs.Found.{predicate_found}
@@ -40,7 +39,7 @@ use Rattle.written_names.proofs.Terms.{applied_read, term_read, terms_read}
 use Rattle.written_names.proofs.Exprs.{term_not_numeric, expr_numeric, expr_read}
 use Rattle.written_names.proofs.Entered.{scope_grown, bound_new, variables_entered}
 
-and_rebuilt : (n : _) (row : Row_of-Formula _) → And' n row ≡ And (items-the_row-Formula _ row)
+pub and_rebuilt : (n : _) (row : Row_of-Formula _) → And' n row ≡ And (items-the_row-Formula _ row)
 unfolding roll-Formula Carrier.roll
 and_rebuilt n row = sym (roll-out-Formula (And' n row)) ∙ ap roll-Formula (outs-And' n row)
     ∙ sym (rolls-And (shown-the_row-Formula-0 n row)) ∙ ap And (items_shown-the_row-Formula-0 n row)

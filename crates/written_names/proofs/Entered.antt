@@ -1,6 +1,6 @@
 -- Written variable lists bring their variables into scope.
-use Rattle.std.proofs.Common.{◌≡◌, Bool, true, false, cond, List, [], ◌∷◌, ◌++◌, map, drop, length, Option, Some, None, option_map, refl, ap, sym, subst, ◌∙◌, append_assoc, inl, inr}
-use Rattle.std.specs.Prelude.{is_some, IsSome, find}
+use Rattle.std.proofs.Common.{◌≡◌, Bool, true, false, cond, List, [], ◌∷◌, ◌++◌, map, Option, Some, None, option_map, refl, ap, sym, subst, ◌∙◌, append_assoc, inl, inr}
+use Rattle.std.specs.Prelude.{is_some, IsSome}
 use Rattle.std.specs.Map.{lookup}
 use Rattle.std.specs.Cmp.Lexicographic.{bytes_decides}
 use Rattle.std.proofs.lemmas.Bool.{false≢true}
@@ -12,13 +12,13 @@ use Rattle.up_text.specs.Lists.{Every, Member, Differ}
 use Rattle.up_tree.specs.declared.term.Typed.{Typed}
 use Rattle.up_tree.specs.declared.problem.Parts.{Parts}
 use Rattle.up_tree.specs.Objects.{named, type_in}
-use Rattle.up_tree.specs.WellFormed.{top_type, IsType, AreVariables}
+use Rattle.up_tree.specs.WellFormed.{IsType, AreVariables}
 use Rattle.pddl_lex.specs.Verdicts.{fine}
 use Rattle.pddl_parse.specs.declared.raw.Ident.{Ident}
 use Rattle.pddl_parse.specs.declared.raw.RawGroup.{RawGroup}
 use Rattle.up_phrase.specs.Conditions.{bound}
 use Rattle.up_phrase.specs.Declarations.{Declarations}
-use Rattle.up_phrase.specs.Lookups.{parent_of, is_type}
+use Rattle.up_phrase.specs.Lookups.{is_type}
 use Rattle.up_phrase.specs.Named.{object}
 use Rattle.up_phrase.specs.Scopes.{Variables, variable_type, entered, entered_groups, typed}
 use Rattle.written_forms.specs.Raw.{at, AreRawNames, no_names, more_names, AreRawGroups, no_groups, more_groups, one_group}
@@ -121,7 +121,7 @@ all_top : (new : List Typed) → Every (λ v. v.of ≡ object) new → map (λ (
 all_top [] tops = refl
 all_top (v ∷ new) tops = rw (tops.0, all_top new tops.1) refl
 
-map_back : (new : List Typed) → map typed (map entry new) ≡ new
+pub map_back : (new : List Typed) → map typed (map entry new) ≡ new
 map_back [] = refl
 map_back (v ∷ new) = ap (λ rest. v ∷ rest) (map_back new)
 

@@ -1,5 +1,5 @@
 -- The abstract syntax of an expression is read as the expression.
-use Rattle.std.proofs.Common.{◌≡◌, Bool, true, false, List, [], ◌∷◌, map, Option, Some, None, option_map, refl, ap, sym, ◌∙◌}
+use Rattle.std.proofs.Common.{◌≡◌, true, false, List, [], ◌∷◌, Some, option_map, refl, ap, ◌∙◌}
 use Rattle.std.proofs.lemmas.Bool.{false≢true}
 use Rattle.std.specs.Prelude.{IsSome}
 use Rattle.up_text.specs.declared.name.Name.{Name}
@@ -32,7 +32,7 @@ use Rattle.up_phrase.specs.Terms.{term}
 use Rattle.up_phrase.proofs.ExprNodes.{expr-Number, expr-Call, expr-Arithmetic}
 use Rattle.up_phrase.proofs.FormulaNodes.{is_numeric-Name, is_numeric-Variable, is_numeric-Number, is_numeric-Call, is_numeric-Arithmetic}
 use Rattle.written_tokens.proofs.Named.{found_and}
-use Rattle.written_forms.specs.Raw.{at, a_variable, an_object, a_number, a_call, arithmetic as an_arithmetic, IsRawTerm, AreRawTerms, IsRawExpr}
+use Rattle.written_forms.specs.Raw.{at, a_variable, an_object, a_number, a_call, arithmetic as an_arithmetic, IsRawTerm, IsRawExpr}
 use Rattle.written_names.specs.Agree.{signature_of, Agree, SameScope}
 use Rattle.written_names.specs.Laws.{ExpressionsAreNamed}
 use Rattle.written_names.proofs.Found.{function_found}

@@ -1,23 +1,31 @@
 -- Laws of what names in written phrases are read as.
-use Rattle.std.specs.Prelude.{◌≡◌, ⊤, Bool, List, Option, Some, None, IsSomeAnd}
+use Rattle.std.specs.Prelude.{◌≡◌, ⊤, Bool, List, [], take, Option, Some, None, IsSomeAnd}
 use Rattle.up_text.specs.declared.name.Name.{Name}
+use Rattle.up_text.specs.Lists.{Every}
 use Rattle.up_tree.specs.declared.term.Typed.{Typed}
 use Rattle.up_tree.specs.declared.term.Term.{Term}
 use Rattle.up_tree.specs.declared.expr.Expr.{Expr}
 use Rattle.up_tree.specs.declared.formula.Formula.{Formula}
+use Rattle.up_tree.specs.declared.action.Row.{Row}
+use Rattle.up_tree.specs.declared.action.Action.{Action}
 use Rattle.up_tree.specs.declared.problem.Parts.{Parts}
 use Rattle.up_tree.specs.WellFormed as tree
-use Rattle.up_tree.specs.WellFormed.{IsBelow, term_type}
+use Rattle.up_tree.specs.WellFormed.{IsBelow, IsRow, IsAction, term_type}
 use Rattle.pddl_lex.specs.Verdicts.{fine}
 use Rattle.pddl_parse.specs.declared.raw.RawTerm.{RawTerm}
 use Rattle.pddl_parse.specs.declared.raw.RawFormula.{RawFormula}
+use Rattle.pddl_parse.specs.declared.raw.RawEffect.{RawEffect}
+use Rattle.pddl_parse.specs.declared.raw.RawAction.{RawAction}
 use Rattle.up_phrase.specs.declared.term.Setting.TheVariants.{Plain}
 use Rattle.up_phrase.specs.Declarations.{Declarations}
 use Rattle.up_phrase.specs.Scopes.{Variables}
 use Rattle.up_phrase.specs.Terms.{term}
 use Rattle.up_phrase.specs.Exprs.{expr}
 use Rattle.up_phrase.specs.Conditions.{formula}
+use Rattle.up_effect.specs.Effects.{within, rows}
+use Rattle.up_effect.specs.Actions as read
 use Rattle.written_forms.specs.Raw.{IsRawTerm, IsRawExpr, IsRawFormula}
+use Rattle.written_forms.specs.RawEffects.{AreRawRows, IsRawAll, IsRawAction}
 use Rattle.written_names.specs.Agree.{Agree, SameScope, TypesWritten}
 
 -- the type is at or below the one due, where one is due
@@ -46,3 +54,16 @@ ConditionsAreNamed =
     (names : Declarations) (p : Parts) (objects : List Typed) → Agree names p objects → (typed : Bool) → TypesWritten typed p
     → (scope : List Typed) (vars : Variables) → SameScope scope vars
     → (f : Formula) → tree.IsFormula p objects scope f → (raw : RawFormula) → IsRawFormula typed f raw → formula names vars Plain raw ≡ fine f
+
+-- the abstract syntax of the effect of an action with these rows is read as the rows, where the variables in scope are its parameters
+abbrev pub EffectsAreNamed : Type 0
+EffectsAreNamed =
+    (names : Declarations) (p : Parts) (objects : List Typed) → Agree names p objects → (typed : Bool) → TypesWritten typed p
+    → (params : List Typed) (vars : Variables) → SameScope params vars
+    → (rs : List Row) → Every (IsRow p objects params) rs → (raw : RawEffect) → IsRawAll (AreRawRows typed rs) raw → rows names (within vars []) raw ≡ fine rs
+
+-- the abstract syntax of an action is read as the action, where only the constants among the objects are declared
+abbrev pub ActionsAreNamed : Type 0
+ActionsAreNamed =
+    (names : Declarations) (p : Parts) → Agree names p (take p.constants p.objects) → (typed : Bool) → TypesWritten typed p
+    → (a : Action) → IsAction p a → (raw : RawAction) → IsRawAction typed a raw → read.action names raw ≡ fine a

@@ -1,4 +1,4 @@
-ghost use Rattle.written_names.specs.Laws.{ConditionsAreNamed, ExpressionsAreNamed, TermsAreNamed};
+ghost use Rattle.written_names.specs.Laws.{ActionsAreNamed, ConditionsAreNamed, EffectsAreNamed, ExpressionsAreNamed, TermsAreNamed};
 
 /// A law: the abstract syntax of a term of a well formed problem is read as the term, where an object of its type or of one
 /// above it is due.
@@ -14,4 +14,14 @@ pub fn expressions_are_named()
 /// A law: the abstract syntax of a condition of a well formed problem is read as the condition.
 pub fn conditions_are_named()
     ensures { ConditionsAreNamed }
+{}
+
+/// A law: the abstract syntax of the effect of an action is read as the action's rows.
+pub fn effects_are_named()
+    ensures { EffectsAreNamed }
+{}
+
+/// A law: the abstract syntax of an action of a well formed problem is read as the action.
+pub fn actions_are_named()
+    ensures { ActionsAreNamed }
 {}

@@ -3,4 +3,7 @@
 
 mod laws;
 
-pub use laws::{conditions_are_named, expressions_are_named, terms_are_named};
+pub use laws::{
+    actions_are_named, conditions_are_named, effects_are_named, expressions_are_named,
+    terms_are_named,
+};
