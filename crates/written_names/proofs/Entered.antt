@@ -23,7 +23,7 @@ use Rattle.up_phrase.specs.Named.{object}
 use Rattle.up_phrase.specs.Scopes.{Variables, variable_type, entered, entered_groups, typed}
 use Rattle.written_forms.specs.Raw.{at, AreRawNames, no_names, more_names, AreRawGroups, no_groups, more_groups, one_group}
 use Rattle.written_names.specs.Agree.{entry, Agree, SameScope, TypesWritten}
-use Rattle.written_names.proofs.Found.{or_true, entry_found, parent_found}
+use Rattle.written_names.proofs.Found.{or_true, entry_found}
 
 -- ---- one list behind another
 
@@ -61,7 +61,7 @@ either_first (Some a) b apart = rw (apart refl) refl
 
 -- ---- names that are new
 
-none_typed : (entries : List Typed) (name : Name) → ¬ Member name (map (λ (e : Typed). e.name) entries) → type_in entries name ≡ None
+pub none_typed : (entries : List Typed) (name : Name) → ¬ Member name (map (λ (e : Typed). e.name) entries) → type_in entries name ≡ None
 none_typed [] name out = refl
 none_typed (x ∷ entries) name out = by (same_name x.name name) refl (none_typed entries name (λ m. out (inr m)))
   where
@@ -97,7 +97,7 @@ pub fresh_free : (scope new : List Typed) (vars : Variables) → SameScope scope
 fresh_free scope [] vars same fresh = tt
 fresh_free scope (v ∷ new) vars same fresh = (same v.name ∙ none_typed scope v.name fresh.0, fresh_free scope new vars same fresh.1)
 
-still_free : (vars : Variables) (name of : Name) (new : List Typed) → ¬ Member name (map (λ v. v.name) new) → Free vars new → Free (vars ++ (name, of) ∷ []) new
+pub still_free : (vars : Variables) (name of : Name) (new : List Typed) → ¬ Member name (map (λ v. v.name) new) → Free vars new → Free (vars ++ (name, of) ∷ []) new
 unfolding or_else
 still_free vars name of [] out free = tt
 still_free vars name of (w ∷ new) out free =
@@ -117,7 +117,7 @@ names_entered of (v ∷ new) _ vars (more_names _ _ _ idents (at place) are) fre
     rw free.0 (names_entered of new idents (vars ++ (v.name, of) ∷ []) are (still_free vars v.name of new differ.0 free.1) differ.1
     ∙ ap fine (append_assoc vars ((v.name, of) ∷ []) (map (λ (v : Typed). (v.name, of)) new)))
 
-all_top : (new : List Typed) → Every (λ v. v.of ≡ object) new → map (λ (v : Typed). (v.name, object)) new ≡ map entry new
+pub all_top : (new : List Typed) → Every (λ v. v.of ≡ object) new → map (λ (v : Typed). (v.name, object)) new ≡ map entry new
 all_top [] tops = refl
 all_top (v ∷ new) tops = rw (tops.0, all_top new tops.1) refl
 
@@ -129,22 +129,29 @@ map_back (v ∷ new) = ap (λ rest. v ∷ rest) (map_back new)
 pub bound_new : (vars : Variables) (new : List Typed) → bound vars (vars ++ map entry new) ≡ new
 bound_new vars new = ap (map typed) (drop-append_seam vars (map entry new)) ∙ map_back new
 
+pub type_present : (p : Parts) (t : Name) → IsSome (named p.types t) → is_some (lookup (same_name t) (map entry p.types)) ≡ true
+type_present p t some = ap is_some (entry_found p.types t) ∙ by (named p.types t) some
+  where
+    by : (o : Option Typed) → IsSome o → is_some (option_map (λ (e : Typed). e.of) o) ≡ true
+    by None some = some
+    by (Some e) some = refl
+
+pub type_listed : (names : Declarations) (p : Parts) → names.types ≡ map entry p.types → (t : Name) → IsType p t → is_type names t ≡ true
+type_listed names p are t (inl top) = rw ((bytes_decides t object).1 top) refl
+type_listed names p are t (inr some) = or_true _ _ (ap (λ ts. is_some (lookup (same_name t) ts)) are ∙ type_present p t some)
+
+-- where no type is declared, all are the top one
+pub only_top : (p : Parts) → p.types ≡ [] → (new : List Typed) → Every (λ v. IsType p v.of) new → Every (λ v. v.of ≡ object) new
+only_top p none [] types = tt
+only_top p none (v ∷ new) types = (by types.0, only_top p none new types.1)
+  where
+    by : IsType p v.of → v.of ≡ object
+    by (inl top) = top
+    by (inr some) = absurd (false≢true (subst (λ ts. IsSome (named ts v.of)) none some))
+
 module _ (names : Declarations) (p : Parts) (objects : List Typed) (agree : Agree names p objects) where
   pub type_known : (t : Name) → IsType p t → is_type names t ≡ true
-  type_known t (inl top) = rw ((bytes_decides t object).1 top) refl
-  type_known t (inr some) = or_true _ _ (ap is_some (parent_found names p objects agree t) ∙ by (named p.types t) some)
-    where
-      by : (o : Option Typed) → IsSome o → is_some (option_map (λ (e : Typed). e.of) o) ≡ true
-      by None some = some
-      by (Some e) some = refl
-
-  only_top : p.types ≡ [] → (new : List Typed) → Every (λ v. IsType p v.of) new → Every (λ v. v.of ≡ object) new
-  only_top none [] types = tt
-  only_top none (v ∷ new) types = (by types.0, only_top none new types.1)
-    where
-      by : IsType p v.of → v.of ≡ object
-      by (inl top) = top
-      by (inr some) = absurd (false≢true (subst (λ ts. IsSome (named ts v.of)) none some))
+  type_known = type_listed names p agree.types
 
   pub groups_entered : (written : Bool) → TypesWritten written p → (new : List Typed) (groups : List RawGroup) (vars : Variables) → AreRawGroups written new groups
       → Free vars new → Differ (map (λ v. v.name) new) → Every (λ v. IsType p v.of) new → entered_groups names [] groups vars ≡ fine (vars ++ map entry new)
@@ -154,7 +161,7 @@ module _ (names : Declarations) (p : Parts) (objects : List Typed) (agree : Agre
       (groups_entered true all new groups (vars ++ (v.name, v.of) ∷ []) are (still_free vars v.name v.of new differ.0 free.1) differ.1 types.1
       ∙ ap fine (append_assoc vars ((v.name, v.of) ∷ []) (map entry new)))
   groups_entered _ all (v ∷ new) _ vars (one_group _ _ idents are) free differ types =
-      rw (names_entered object (v ∷ new) idents vars are free differ) (ap (λ es. fine (vars ++ es)) (all_top (v ∷ new) (only_top (all refl) (v ∷ new) types)))
+      rw (names_entered object (v ∷ new) idents vars are free differ) (ap (λ es. fine (vars ++ es)) (all_top (v ∷ new) (only_top p (all refl) (v ∷ new) types)))
 
   -- variables that may stand in this scope
   pub variables_entered : (written : Bool) → TypesWritten written p → (scope new : List Typed) → AreVariables p scope new → (groups : List RawGroup) → AreRawGroups written new groups

@@ -1,7 +1,9 @@
 pub mod Conditions
+pub mod Declared
 pub mod Effects
 pub mod Entered
 pub mod Exprs
 pub mod Found
+pub mod Listed
 pub mod Rows
 pub mod Terms

@@ -33,3 +33,8 @@ SameScope scope vars = (v : Name) → variable_type vars v ≡ type_in scope v
 -- types are left out only where no type is declared
 abbrev pub TypesWritten : Bool → Parts → Type 0
 TypesWritten typed p = typed ≡ false → p.types ≡ []
+
+-- what was declared, and behind it these objects
+abbrev pub and_objects : Declarations → List Typed → Declarations
+and_objects names new =
+    record { types = names.types; objects = names.objects ++ map entry new; predicates = names.predicates; functions = names.functions }

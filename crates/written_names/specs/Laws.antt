@@ -1,7 +1,7 @@
 -- Laws of what names in written phrases are read as.
-use Rattle.std.specs.Prelude.{◌≡◌, ⊤, Bool, List, [], take, Option, Some, None, IsSomeAnd}
+use Rattle.std.specs.Prelude.{◌≡◌, ⊤, Bool, true, List, [], take, map, Option, Some, None, IsSomeAnd}
 use Rattle.up_text.specs.declared.name.Name.{Name}
-use Rattle.up_text.specs.Lists.{Every}
+use Rattle.up_text.specs.Lists.{Every, Differ}
 use Rattle.up_tree.specs.declared.term.Typed.{Typed}
 use Rattle.up_tree.specs.declared.term.Term.{Term}
 use Rattle.up_tree.specs.declared.expr.Expr.{Expr}
@@ -10,23 +10,27 @@ use Rattle.up_tree.specs.declared.action.Row.{Row}
 use Rattle.up_tree.specs.declared.action.Action.{Action}
 use Rattle.up_tree.specs.declared.problem.Parts.{Parts}
 use Rattle.up_tree.specs.WellFormed as tree
-use Rattle.up_tree.specs.WellFormed.{IsBelow, IsRow, IsAction, term_type}
+use Rattle.up_tree.specs.WellFormed.{IsBelow, IsType, IsRow, IsAction, IsWellFormed, term_type}
 use Rattle.pddl_lex.specs.Verdicts.{fine}
 use Rattle.pddl_parse.specs.declared.raw.RawTerm.{RawTerm}
+use Rattle.pddl_parse.specs.declared.raw.RawGroup.{RawGroup}
 use Rattle.pddl_parse.specs.declared.raw.RawFormula.{RawFormula}
 use Rattle.pddl_parse.specs.declared.raw.RawEffect.{RawEffect}
 use Rattle.pddl_parse.specs.declared.raw.RawAction.{RawAction}
 use Rattle.up_phrase.specs.declared.term.Setting.TheVariants.{Plain}
 use Rattle.up_phrase.specs.Declarations.{Declarations}
+use Rattle.up_phrase.specs.Lookups.{type_of}
 use Rattle.up_phrase.specs.Scopes.{Variables}
 use Rattle.up_phrase.specs.Terms.{term}
 use Rattle.up_phrase.specs.Exprs.{expr}
 use Rattle.up_phrase.specs.Conditions.{formula}
 use Rattle.up_effect.specs.Effects.{within, rows}
 use Rattle.up_effect.specs.Actions as read
-use Rattle.written_forms.specs.Raw.{IsRawTerm, IsRawExpr, IsRawFormula}
+use Rattle.up_declare.specs.Types.{types}
+use Rattle.up_declare.specs.Declaring.{with_objects}
+use Rattle.written_forms.specs.Raw.{AreRawGroups, IsRawTerm, IsRawExpr, IsRawFormula}
 use Rattle.written_forms.specs.RawEffects.{AreRawRows, IsRawAll, IsRawAction}
-use Rattle.written_names.specs.Agree.{Agree, SameScope, TypesWritten}
+use Rattle.written_names.specs.Agree.{entry, Agree, SameScope, TypesWritten, and_objects}
 
 -- the type is at or below the one due, where one is due
 abbrev pub IsDue : Parts → Option Name → Option Name → Type 0
@@ -67,3 +71,16 @@ abbrev pub ActionsAreNamed : Type 0
 ActionsAreNamed =
     (names : Declarations) (p : Parts) → Agree names p (take p.constants p.objects) → (typed : Bool) → TypesWritten typed p
     → (a : Action) → IsAction p a → (raw : RawAction) → IsRawAction typed a raw → read.action names raw ≡ fine a
+
+-- ---- declarations
+
+-- the types that are listed with their parents are read as the types of the problem
+abbrev pub TypesAreNamed : Type 0
+TypesAreNamed = (p : Parts) → IsWellFormed p → (groups : List RawGroup) → AreRawGroups true p.types groups → types groups ≡ fine (map entry p.types)
+
+-- objects of declared types with names that differ, of which none is declared yet, are declared behind the others
+abbrev pub ObjectsAreNamed : Type 0
+ObjectsAreNamed =
+    (p : Parts) (typed : Bool) → TypesWritten typed p → (new : List Typed) (groups : List RawGroup) (names : Declarations) → names.types ≡ map entry p.types
+    → AreRawGroups typed new groups → Every (λ o. type_of names o.name ≡ None) new → Differ (map (λ o. o.name) new) → Every (λ o. IsType p o.of) new
+    → with_objects groups names ≡ fine (and_objects names new)

@@ -1,4 +1,4 @@
-ghost use Rattle.written_names.specs.Laws.{ActionsAreNamed, ConditionsAreNamed, EffectsAreNamed, ExpressionsAreNamed, TermsAreNamed};
+ghost use Rattle.written_names.specs.Laws.{ActionsAreNamed, ConditionsAreNamed, EffectsAreNamed, ExpressionsAreNamed, ObjectsAreNamed, TermsAreNamed, TypesAreNamed};
 
 /// A law: the abstract syntax of a term of a well formed problem is read as the term, where an object of its type or of one
 /// above it is due.
@@ -24,4 +24,14 @@ pub fn effects_are_named()
 /// A law: the abstract syntax of an action of a well formed problem is read as the action.
 pub fn actions_are_named()
     ensures { ActionsAreNamed }
+{}
+
+/// A law: the types that a written domain lists are read as those of the problem.
+pub fn types_are_named()
+    ensures { TypesAreNamed }
+{}
+
+/// A law: written constants and objects are declared with their types.
+pub fn objects_are_named()
+    ensures { ObjectsAreNamed }
 {}

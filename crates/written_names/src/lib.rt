@@ -5,5 +5,5 @@ mod laws;
 
 pub use laws::{
     actions_are_named, conditions_are_named, effects_are_named, expressions_are_named,
-    terms_are_named,
+    objects_are_named, terms_are_named, types_are_named,
 };
