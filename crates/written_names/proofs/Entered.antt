@@ -27,12 +27,12 @@ use Rattle.written_names.proofs.Found.{or_true, entry_found}
 
 -- ---- one list behind another
 
-or_else : {X : Type 0} → Option X → Option X → Option X
+unfoldable pub or_else : {X : Type 0} → Option X → Option X → Option X
 or_else None b = b
 or_else (Some a) b = Some a
 
 module _ {Y : Type 0} (name : Name) where
-  lookup-append : (xs ys : List (Name × Y)) → lookup (same_name name) (xs ++ ys) ≡ or_else (lookup (same_name name) xs) (lookup (same_name name) ys)
+  pub lookup-append : (xs ys : List (Name × Y)) → lookup (same_name name) (xs ++ ys) ≡ or_else (lookup (same_name name) xs) (lookup (same_name name) ys)
   unfolding or_else
   lookup-append [] ys = refl
   lookup-append (x ∷ xs) ys = by (same_name name x.0) (lookup-append xs ys)

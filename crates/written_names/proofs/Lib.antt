@@ -1,3 +1,4 @@
+pub mod Agreeing
 pub mod Conditions
 pub mod Declared
 pub mod Effects
@@ -5,5 +6,6 @@ pub mod Entered
 pub mod Exprs
 pub mod Found
 pub mod Listed
+pub mod Params
 pub mod Rows
 pub mod Terms

@@ -101,7 +101,7 @@ module _ (names : Declarations) (p : Parts) (objects : List Typed) (agree : Agre
       → (raw : RawEffect) → IsRawAll (AreRawRows written rs) raw → rows names (within vars []) raw ≡ fine rs
   rows_read scope vars same rs are _ (all_of raws so) = rows-And names (within vars []) raws ∙ each_row_read scope vars same rs are raws so
 
-name_is : (name : Name) (ident : Ident) → IsRawName name ident → ident.name ≡ name
+pub name_is : (name : Name) (ident : Ident) → IsRawName name ident → ident.name ≡ name
 name_is name _ (at place) = refl
 
 pub effects_are_named : EffectsAreNamed

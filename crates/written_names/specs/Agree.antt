@@ -1,5 +1,5 @@
 -- When what is declared is what a problem's parts say.
-use Rattle.std.specs.Prelude.{◌≡◌, Bool, false, List, [], ◌++◌, map}
+use Rattle.std.specs.Prelude.{◌≡◌, Bool, false, List, [], ◌++◌, map, take}
 use Rattle.up_text.specs.declared.name.Name.{Name}
 use Rattle.up_tree.specs.declared.term.Typed.{Typed}
 use Rattle.up_tree.specs.declared.problem.Parts.{Parts}
@@ -38,3 +38,12 @@ TypesWritten typed p = typed ≡ false → p.types ≡ []
 abbrev pub and_objects : Declarations → List Typed → Declarations
 and_objects names new =
     record { types = names.types; objects = names.objects ++ map entry new; predicates = names.predicates; functions = names.functions }
+
+-- what the domain of a problem declares
+abbrev pub domain_names : Parts → Declarations
+domain_names p = record {
+  types = map entry p.types;
+  objects = map entry (take p.constants p.objects);
+  predicates = map (λ (d : Predicate). (d.name, d.args)) p.predicates;
+  functions = map (λ (d : Function). (d.name, signature_of d)) p.functions;
+}

@@ -1,5 +1,5 @@
 -- Laws of what names in written phrases are read as.
-use Rattle.std.specs.Prelude.{◌≡◌, ⊤, Bool, true, List, [], take, map, Option, Some, None, IsSomeAnd}
+use Rattle.std.specs.Prelude.{◌≡◌, ⊤, Bool, true, List, [], take, drop, map, Option, Some, None, IsSomeAnd}
 use Rattle.up_text.specs.declared.name.Name.{Name}
 use Rattle.up_text.specs.Lists.{Every, Differ}
 use Rattle.up_tree.specs.declared.term.Typed.{Typed}
@@ -10,10 +10,12 @@ use Rattle.up_tree.specs.declared.action.Row.{Row}
 use Rattle.up_tree.specs.declared.action.Action.{Action}
 use Rattle.up_tree.specs.declared.problem.Parts.{Parts}
 use Rattle.up_tree.specs.WellFormed as tree
-use Rattle.up_tree.specs.WellFormed.{IsBelow, IsType, IsRow, IsAction, IsWellFormed, term_type}
+use Rattle.up_tree.specs.WellFormed.{IsBelow, IsType, OfGives, IsRow, IsAction, IsWellFormed, term_type}
 use Rattle.pddl_lex.specs.Verdicts.{fine}
 use Rattle.pddl_parse.specs.declared.raw.RawTerm.{RawTerm}
 use Rattle.pddl_parse.specs.declared.raw.RawGroup.{RawGroup}
+use Rattle.pddl_parse.specs.declared.raw.RawSymbol.{RawSymbol}
+use Rattle.pddl_parse.specs.declared.raw.RawGives.{RawGives}
 use Rattle.pddl_parse.specs.declared.raw.RawFormula.{RawFormula}
 use Rattle.pddl_parse.specs.declared.raw.RawEffect.{RawEffect}
 use Rattle.pddl_parse.specs.declared.raw.RawAction.{RawAction}
@@ -27,10 +29,11 @@ use Rattle.up_phrase.specs.Conditions.{formula}
 use Rattle.up_effect.specs.Effects.{within, rows}
 use Rattle.up_effect.specs.Actions as read
 use Rattle.up_declare.specs.Types.{types}
-use Rattle.up_declare.specs.Declaring.{with_objects}
+use Rattle.up_declare.specs.Declaring.{with_objects, with_predicates, given, with_function_group}
 use Rattle.written_forms.specs.Raw.{AreRawGroups, IsRawTerm, IsRawExpr, IsRawFormula}
 use Rattle.written_forms.specs.RawEffects.{AreRawRows, IsRawAll, IsRawAction}
-use Rattle.written_names.specs.Agree.{entry, Agree, SameScope, TypesWritten, and_objects}
+use Rattle.written_names.specs.Agree.{entry, Agree, SameScope, TypesWritten, and_objects, domain_names}
+use Rattle.written_names.specs.Symbols.{AreSymbols, IsNew, and_predicates, and_functions}
 
 -- the type is at or below the one due, where one is due
 abbrev pub IsDue : Parts → Option Name → Option Name → Type 0
@@ -84,3 +87,23 @@ ObjectsAreNamed =
     (p : Parts) (typed : Bool) → TypesWritten typed p → (new : List Typed) (groups : List RawGroup) (names : Declarations) → names.types ≡ map entry p.types
     → AreRawGroups typed new groups → Every (λ o. type_of names o.name ≡ None) new → Differ (map (λ o. o.name) new) → Every (λ o. IsType p o.of) new
     → with_objects groups names ≡ fine (and_objects names new)
+
+-- predicates whose names differ and are new are declared behind the others
+abbrev pub PredicatesAreNamed : Type 0
+PredicatesAreNamed =
+    (p : Parts) (typed : Bool) → TypesWritten typed p → (entries : List (Name × List Name)) (symbols : List RawSymbol) (names : Declarations) → names.types ≡ map entry p.types
+    → AreSymbols typed entries symbols → Every (λ e. IsNew names e.0) entries → Differ (map (λ e. e.0) entries) → Every (λ e. Every (IsType p) e.1) entries
+    → with_predicates symbols names ≡ fine (and_predicates names entries)
+
+-- the same of a group of functions that give the same
+abbrev pub FunctionsAreNamed : Type 0
+FunctionsAreNamed =
+    (p : Parts) (typed : Bool) → TypesWritten typed p → (of : RawGives) (entries : List (Name × List Name)) (symbols : List RawSymbol) (names : Declarations)
+    → names.types ≡ map entry p.types → AreSymbols typed entries symbols → Every (λ e. IsNew names e.0) entries → Differ (map (λ e. e.0) entries)
+    → Every (λ e. Every (IsType p) e.1) entries → OfGives p (given of)
+    → with_function_group (record { functions = symbols; gives = of }) names ≡ fine (and_functions names (given of) entries)
+
+-- what a domain declares agrees with the problem where only its constants may be named, and with the objects of the problem behind it,
+-- where all objects may be
+abbrev pub DeclaredAgree : Type 0
+DeclaredAgree = (p : Parts) → Agree (domain_names p) p (take p.constants p.objects) × Agree (and_objects (domain_names p) (drop p.constants p.objects)) p p.objects

@@ -1,4 +1,4 @@
-ghost use Rattle.written_names.specs.Laws.{ActionsAreNamed, ConditionsAreNamed, EffectsAreNamed, ExpressionsAreNamed, ObjectsAreNamed, TermsAreNamed, TypesAreNamed};
+ghost use Rattle.written_names.specs.Laws.{ActionsAreNamed, ConditionsAreNamed, DeclaredAgree, EffectsAreNamed, ExpressionsAreNamed, FunctionsAreNamed, ObjectsAreNamed, PredicatesAreNamed, TermsAreNamed, TypesAreNamed};
 
 /// A law: the abstract syntax of a term of a well formed problem is read as the term, where an object of its type or of one
 /// above it is due.
@@ -34,4 +34,20 @@ pub fn types_are_named()
 /// A law: written constants and objects are declared with their types.
 pub fn objects_are_named()
     ensures { ObjectsAreNamed }
+{}
+
+/// A law: written predicates are declared with the types of their arguments.
+pub fn predicates_are_named()
+    ensures { PredicatesAreNamed }
+{}
+
+/// A law: a written group of functions that give the same is declared with the types of their arguments and what they give.
+pub fn functions_are_named()
+    ensures { FunctionsAreNamed }
+{}
+
+/// A law: what the types, constants, predicates and functions of a problem declare agrees with its parts, and so does that with
+/// its other objects.
+pub fn declared_agree()
+    ensures { DeclaredAgree }
 {}
