@@ -23,6 +23,7 @@ use Rattle.pddl_parse.specs.declared.raw.Relation.TheVariants as stated
 use Rattle.pddl_parse.specs.declared.raw.RawTerm.{RawTerm}
 use Rattle.pddl_parse.specs.declared.raw.RawFormula.{RawFormula}
 use Rattle.pddl_parse.specs.Forms.{ident_at}
+use Rattle.up_phrase.specs.declared.term.Setting.{Setting}
 use Rattle.up_phrase.specs.declared.term.Setting.TheVariants.{Plain}
 use Rattle.up_phrase.specs.Conditions.{predicate, atom_args, is_numeric, is_equality, relation_of, quantifier, formula}
 use Rattle.up_phrase.specs.Declarations.{Declarations}
@@ -44,24 +45,24 @@ unfolding roll-Formula Carrier.roll
 and_rebuilt n row = sym (roll-out-Formula (And' n row)) ∙ ap roll-Formula (outs-And' n row)
     ∙ sym (rolls-And (shown-the_row-Formula-0 n row)) ∙ ap And (items_shown-the_row-Formula-0 n row)
 
-or_rebuilt : (n : _) (row : Row_of-Formula _) → Or' n row ≡ Or (items-the_row-Formula _ row)
+pub or_rebuilt : (n : _) (row : Row_of-Formula _) → Or' n row ≡ Or (items-the_row-Formula _ row)
 unfolding roll-Formula Carrier.roll
 or_rebuilt n row = sym (roll-out-Formula (Or' n row)) ∙ ap roll-Formula (outs-Or' n row)
     ∙ sym (rolls-Or (shown-the_row-Formula-0 n row)) ∙ ap Or (items_shown-the_row-Formula-0 n row)
 
-not_built : (f : Formula) → Not f ≡ not f
+pub not_built : (f : Formula) → Not f ≡ not f
 unfolding built
 not_built f = refl
 
-imply_built : (f g : Formula) → Imply f g ≡ imply f g
+pub imply_built : (f g : Formula) → Imply f g ≡ imply f g
 unfolding built
 imply_built f g = refl
 
-exists_built : (vars : List Typed) (f : Formula) → Exists vars f ≡ exists vars f
+pub exists_built : (vars : List Typed) (f : Formula) → Exists vars f ≡ exists vars f
 unfolding built
 exists_built vars f = refl
 
-forall_built : (vars : List Typed) (f : Formula) → Forall vars f ≡ forall vars f
+pub forall_built : (vars : List Typed) (f : Formula) → Forall vars f ≡ forall vars f
 unfolding built
 forall_built vars f = refl
 
@@ -93,10 +94,10 @@ module _ (names : Declarations) (p : Parts) (objects : List Typed) (agree : Agre
       applied_read (term names vars Plain) place name (predicate (ident_at name there) (predicate_of names name)) d.args args ts
       (predicate_read (ident_at name there) d here) (terms_read names p objects agree scope vars same ts d.args known args are)
 
-  quantifier_read : (scope : List Typed) (vars : Variables) → SameScope scope vars → (new : List Typed) (f : Formula) → AreVariables p scope new
-      → (groups : List RawGroup) (raw : RawFormula) → AreRawGroups written new groups → formula names (vars ++ map entry new) Plain raw ≡ fine f
-      → quantifier names vars Plain groups raw ≡ fine (new, f)
-  quantifier_read scope vars same new f are groups raw so inner =
+  pub quantifier_read : (s : Setting) (scope : List Typed) (vars : Variables) → SameScope scope vars → (new : List Typed) (f : Formula) → AreVariables p scope new
+      → (groups : List RawGroup) (raw : RawFormula) → AreRawGroups written new groups → formula names (vars ++ map entry new) s raw ≡ fine f
+      → quantifier names vars s groups raw ≡ fine (new, f)
+  quantifier_read s scope vars same new f are groups raw so inner =
       rw (variables_entered names p objects agree written all_written scope new are groups so vars same, inner, bound_new vars new) refl
 
   mutual
@@ -114,12 +115,12 @@ module _ (names : Declarations) (p : Parts) (objects : List Typed) (agree : Agre
         formula-Imply names vars Plain x y ∙ rw (formula_read f scope vars same is.0 x so_f, formula_read g scope vars same is.1 y so_g) (ap fine (imply_built f g))
     formula_read (exists new f) scope vars same is _ (an_exists groups x so_vars so) =
         formula-Exists names vars Plain groups x
-        ∙ ap (over (λ (q : List Typed × Formula). Exists q.0 q.1)) (quantifier_read scope vars same new f is.0 groups x so_vars
+        ∙ ap (over (λ (q : List Typed × Formula). Exists q.0 q.1)) (quantifier_read Plain scope vars same new f is.0 groups x so_vars
         (formula_read f (new ++ scope) (vars ++ map entry new) (scope_grown scope new vars same is.0.fresh) is.1 x so))
         ∙ ap fine (exists_built new f)
     formula_read (forall new f) scope vars same is _ (a_forall groups x so_vars so) =
         formula-Forall names vars Plain groups x
-        ∙ ap (over (λ (q : List Typed × Formula). Forall q.0 q.1)) (quantifier_read scope vars same new f is.0 groups x so_vars
+        ∙ ap (over (λ (q : List Typed × Formula). Forall q.0 q.1)) (quantifier_read Plain scope vars same new f is.0 groups x so_vars
         (formula_read f (new ++ scope) (vars ++ map entry new) (scope_grown scope new vars same is.0.fresh) is.1 x so))
         ∙ ap fine (forall_built new f)
     formula_read (Atom name ts) scope vars same is _ (an_atom place _ args (at there) are) =

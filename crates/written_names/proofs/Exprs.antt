@@ -38,23 +38,23 @@ use Rattle.written_names.specs.Laws.{ExpressionsAreNamed}
 use Rattle.written_names.proofs.Found.{function_found}
 use Rattle.written_names.proofs.Terms.{applied_read, terms_read}
 
-sum_built : (a b : Expr) → Sum a b ≡ sum a b
+pub sum_built : (a b : Expr) → Sum a b ≡ sum a b
 unfolding built
 sum_built a b = refl
 
-difference_built : (a b : Expr) → Difference a b ≡ difference a b
+pub difference_built : (a b : Expr) → Difference a b ≡ difference a b
 unfolding built
 difference_built a b = refl
 
-product_built : (a b : Expr) → Product a b ≡ product a b
+pub product_built : (a b : Expr) → Product a b ≡ product a b
 unfolding built
 product_built a b = refl
 
-quotient_built : (a b : Expr) → Quotient a b ≡ quotient a b
+pub quotient_built : (a b : Expr) → Quotient a b ≡ quotient a b
 unfolding built
 quotient_built a b = refl
 
-two_operands : (op : Operator) (place : Place) (a b : Expr) → arithmetic op place (a ∷ b ∷ []) ≡ fine (binary op a b)
+pub two_operands : (op : Operator) (place : Place) (a b : Expr) → arithmetic op place (a ∷ b ∷ []) ≡ fine (binary op a b)
 two_operands operator.Sum place a b = refl
 two_operands operator.Difference place a b = refl
 two_operands operator.Product place a b = refl

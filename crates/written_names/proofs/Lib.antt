@@ -8,4 +8,5 @@ pub mod Found
 pub mod Listed
 pub mod Params
 pub mod Rows
+pub mod Settings
 pub mod Terms

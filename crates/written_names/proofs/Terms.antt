@@ -61,12 +61,12 @@ applied_read one place name declared types args ts is (reads_as count are) =
 
 module _ (names : Declarations) (p : Parts) (objects : List Typed) (agree : Agree names p objects) (scope : List Typed) (vars : Variables) (same : SameScope scope vars) where
   -- a name of this type where one below another is due
-  typed_read : (it : Ident) (t : Term) (due of : Option Name) → IsSome of → IsDue p of due → of_type names it t due of ≡ fine t
+  pub typed_read : (it : Ident) (t : Term) (due of : Option Name) → IsSome of → IsDue p of due → of_type names it t due of ≡ fine t
   typed_read it t due None some fits = absurd (false≢true some)
   typed_read it t None (Some u) some fits = refl
   typed_read it t (Some above) (Some u) some fits = rw (under_is names p objects agree u above fits) refl
 
-  typed_some : (entries : List Typed) (name : Name) → IsSome (named entries name) → IsSome (type_in entries name)
+  pub typed_some : (entries : List Typed) (name : Name) → IsSome (named entries name) → IsSome (type_in entries name)
   typed_some entries name some = by (named entries name) some
     where
       by : (o : Option Typed) → IsSome o → IsSome (option_map (λ (e : Typed). e.of) o)

@@ -10,7 +10,7 @@ use Rattle.up_tree.specs.declared.action.Row.{Row}
 use Rattle.up_tree.specs.declared.action.Action.{Action}
 use Rattle.up_tree.specs.declared.problem.Parts.{Parts}
 use Rattle.up_tree.specs.WellFormed as tree
-use Rattle.up_tree.specs.WellFormed.{IsBelow, IsType, OfGives, IsRow, IsAction, IsWellFormed, term_type}
+use Rattle.up_tree.specs.WellFormed.{IsBelow, IsType, OfGives, IsPlainExpr, IsPlain, IsRow, IsAction, IsWellFormed, term_type}
 use Rattle.pddl_lex.specs.Verdicts.{fine}
 use Rattle.pddl_parse.specs.declared.raw.RawTerm.{RawTerm}
 use Rattle.pddl_parse.specs.declared.raw.RawGroup.{RawGroup}
@@ -19,6 +19,7 @@ use Rattle.pddl_parse.specs.declared.raw.RawGives.{RawGives}
 use Rattle.pddl_parse.specs.declared.raw.RawFormula.{RawFormula}
 use Rattle.pddl_parse.specs.declared.raw.RawEffect.{RawEffect}
 use Rattle.pddl_parse.specs.declared.raw.RawAction.{RawAction}
+use Rattle.up_phrase.specs.declared.term.Setting.{Setting}
 use Rattle.up_phrase.specs.declared.term.Setting.TheVariants.{Plain}
 use Rattle.up_phrase.specs.Declarations.{Declarations}
 use Rattle.up_phrase.specs.Lookups.{type_of}
@@ -61,6 +62,20 @@ ConditionsAreNamed =
     (names : Declarations) (p : Parts) (objects : List Typed) → Agree names p objects → (typed : Bool) → TypesWritten typed p
     → (scope : List Typed) (vars : Variables) → SameScope scope vars
     → (f : Formula) → tree.IsFormula p objects scope f → (raw : RawFormula) → IsRawFormula typed f raw → formula names vars Plain raw ≡ fine f
+
+-- an expression without an object function's value is read as itself in a metric too
+abbrev pub PlainExpressionsAreNamed : Type 0
+PlainExpressionsAreNamed =
+    (names : Declarations) (p : Parts) (objects : List Typed) → Agree names p objects → (s : Setting)
+    → (scope : List Typed) (vars : Variables) → SameScope scope vars
+    → (x : Expr) → tree.IsExpr p objects scope x → IsPlainExpr x → (raw : RawTerm) → IsRawExpr x raw → expr names vars s raw ≡ fine x
+
+-- a condition without one and without comparisons is read as itself in a constraint too
+abbrev pub PlainConditionsAreNamed : Type 0
+PlainConditionsAreNamed =
+    (names : Declarations) (p : Parts) (objects : List Typed) → Agree names p objects → (s : Setting) (typed : Bool) → TypesWritten typed p
+    → (scope : List Typed) (vars : Variables) → SameScope scope vars
+    → (f : Formula) → tree.IsFormula p objects scope f → IsPlain f → (raw : RawFormula) → IsRawFormula typed f raw → formula names vars s raw ≡ fine f
 
 -- the abstract syntax of the effect of an action with these rows is read as the rows, where the variables in scope are its parameters
 abbrev pub EffectsAreNamed : Type 0

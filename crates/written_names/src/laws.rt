@@ -1,4 +1,4 @@
-ghost use Rattle.written_names.specs.Laws.{ActionsAreNamed, ConditionsAreNamed, DeclaredAgree, EffectsAreNamed, ExpressionsAreNamed, FunctionsAreNamed, ObjectsAreNamed, PredicatesAreNamed, TermsAreNamed, TypesAreNamed};
+ghost use Rattle.written_names.specs.Laws.{ActionsAreNamed, ConditionsAreNamed, DeclaredAgree, EffectsAreNamed, ExpressionsAreNamed, FunctionsAreNamed, ObjectsAreNamed, PlainConditionsAreNamed, PlainExpressionsAreNamed, PredicatesAreNamed, TermsAreNamed, TypesAreNamed};
 
 /// A law: the abstract syntax of a term of a well formed problem is read as the term, where an object of its type or of one
 /// above it is due.
@@ -14,6 +14,16 @@ pub fn expressions_are_named()
 /// A law: the abstract syntax of a condition of a well formed problem is read as the condition.
 pub fn conditions_are_named()
     ensures { ConditionsAreNamed }
+{}
+
+/// A law: an expression without an object function's value is read as itself in a metric too.
+pub fn plain_expressions_are_named()
+    ensures { PlainExpressionsAreNamed }
+{}
+
+/// A law: a condition without an object function's value and without comparisons is read as itself in a constraint too.
+pub fn plain_conditions_are_named()
+    ensures { PlainConditionsAreNamed }
 {}
 
 /// A law: the abstract syntax of the effect of an action is read as the action's rows.
