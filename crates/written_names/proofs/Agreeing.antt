@@ -1,9 +1,11 @@
 -- What a written domain and problem declare is what the problem's parts say.
-use Rattle.std.proofs.Common.{◌≡◌, List, [], ◌∷◌, ◌++◌, map, take, drop, refl, ap, sym, ◌∙◌}
+use Rattle.std.proofs.Common.{◌≡◌, Bool, true, false, true≢false, List, [], ◌∷◌, ◌++◌, map, take, drop, refl, ap, sym, ◌∙◌}
 use Rattle.std.proofs.lemmas.List.{take-append-drop}
+use Rattle.std.specs.Prelude.{not as flip}
 use Rattle.up_tree.specs.declared.term.Typed.{Typed}
+use Rattle.up_tree.specs.Simplify.{is_empty}
 use Rattle.written_names.specs.Agree.{entry}
-use Rattle.written_names.specs.Laws.{DeclaredAgree}
+use Rattle.written_names.specs.Laws.{DeclaredAgree, TypesAreWritten}
 
 map-append : (xs ys : List Typed) → map entry xs ++ map entry ys ≡ map entry (xs ++ ys)
 map-append [] ys = refl
@@ -25,3 +27,10 @@ declared_agree p = (
     all_objects = append-none p.objects;
   },
 )
+
+pub types_are_written : TypesAreWritten
+types_are_written p = by p.types
+  where
+    by : (ts : List Typed) → flip (is_empty ts) ≡ false → ts ≡ []
+    by [] is = refl
+    by (t ∷ ts) is = absurd (true≢false is)

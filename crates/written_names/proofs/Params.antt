@@ -7,6 +7,7 @@ use Rattle.up_text.specs.declared.name.Name.{Name}
 use Rattle.up_text.specs.Names.{same_name}
 use Rattle.up_text.specs.Lists.{Every, Member, Differ}
 use Rattle.up_tree.specs.declared.term.Typed.{Typed}
+use Rattle.up_tree.specs.declared.problem.Function.{Function}
 use Rattle.up_tree.specs.declared.problem.Gives.{Gives}
 use Rattle.up_tree.specs.declared.problem.Parts.{Parts}
 use Rattle.up_tree.specs.WellFormed.{IsType, OfGives}
@@ -14,18 +15,19 @@ use Rattle.pddl_lex.specs.Verdicts.{fine}
 use Rattle.pddl_parse.specs.declared.raw.Ident.{Ident}
 use Rattle.pddl_parse.specs.declared.raw.RawGroup.{RawGroup}
 use Rattle.pddl_parse.specs.declared.raw.RawSymbol.{RawSymbol}
+use Rattle.pddl_parse.specs.declared.raw.RawFunctions.{RawFunctions}
 use Rattle.pddl_parse.specs.declared.raw.RawGives.{RawGives}
 use Rattle.pddl_parse.specs.declared.raw.RawGives.TheVariants as stated
 use Rattle.up_phrase.specs.declared.names.Signature.{Signature}
 use Rattle.up_phrase.specs.Declarations.{Declarations}
 use Rattle.up_phrase.specs.Named.{object}
-use Rattle.up_phrase.specs.Walks.{in_turn}
-use Rattle.up_declare.specs.Declaring.{each_of, arg_types, with_predicates, given, gives_fault, with_function}
+use Rattle.up_phrase.specs.Walks.{after, in_turn}
+use Rattle.up_declare.specs.Declaring.{each_of, arg_types, with_predicates, given, gives_fault, with_function, with_function_group, with_functions}
 use Rattle.written_tokens.proofs.Named.{every-map}
 use Rattle.written_forms.specs.Raw.{at, empty, first, AreRawNames, no_names, more_names, AreRawGroups, no_groups, more_groups, one_group}
-use Rattle.written_names.specs.Agree.{entry, TypesWritten}
-use Rattle.written_names.specs.Symbols.{IsSymbol, AreSymbols, IsNew, and_predicates, and_functions}
-use Rattle.written_names.specs.Laws.{PredicatesAreNamed, FunctionsAreNamed}
+use Rattle.written_names.specs.Agree.{entry, signature_of, TypesWritten, with_each}
+use Rattle.written_names.specs.Symbols.{AreOwnGroups, own_group, IsSymbol, AreSymbols, IsNew, and_predicates, and_functions}
+use Rattle.written_names.specs.Laws.{PredicatesAreNamed, FunctionsAreNamed, EachFunctionIsNamed}
 use Rattle.written_names.proofs.Entered.{or_else, lookup-append, type_listed, only_top}
 use Rattle.written_names.proofs.Rows.{name_is}
 
@@ -114,3 +116,30 @@ predicates_are_named p typed all entries symbols names listed are new differ typ
 pub functions_are_named : FunctionsAreNamed
 functions_are_named p typed all of entries symbols names listed are new differ types known =
     rw (functions_declared p typed all of entries symbols names listed are new differ types, gives_known (and_functions names (given of) entries) p listed of known) refl
+
+-- ---- functions, each in a group of its own
+
+others_new : (names : Declarations) (name : Name) (args : List Name) (g : Gives) (ds : List Function) → ¬ Member name (map (λ (d : Function). d.name) ds) → Every (λ d. IsNew names d.name) ds
+    → Every (λ d. IsNew (and_functions names g ((name, args) ∷ [])) d.name) ds
+others_new names name args g [] out new = tt
+others_new names name args g (d ∷ ds) out new =
+    ((new.0.0, off_lookup names.functions name d.name (record { args = args; gives = g }) (λ same. out (inl same)) new.0.1), others_new names name args g ds (λ m. out (inr m)) new.1)
+
+abbrev declared_as : Function → Name × Signature
+declared_as d = (d.name, signature_of d)
+
+each_declared : (p : Parts) (typed : Bool) → TypesWritten typed p → (ds : List Function) (groups : List RawFunctions) (names : Declarations) → names.types ≡ map entry p.types
+    → AreOwnGroups typed ds groups → Every (λ d. IsNew names d.name) ds → Differ (map (λ (d : Function). d.name) ds) → Every (λ d. Every (IsType p) d.args) ds
+    → Every (λ d. OfGives p d.gives) ds → with_functions groups names ≡ fine (with_each names ds)
+each_declared p typed all [] _ names listed empty new differ types known = ap (λ fs. fine (with_signatures names fs)) (sym (append-nil names.functions))
+each_declared p typed all (d ∷ ds) _ names listed (first _ groups (own_group symbol of is same) are) new differ types known =
+    let one : List (Name × List Name) = (d.name, d.args) ∷ [] in
+    let step : with_function_group (record { functions = symbol ∷ []; gives = of }) names ≡ fine (and_functions names (given of) one) =
+    functions_are_named p typed all of one (symbol ∷ []) names listed (first symbol [] is empty) (new.0, tt) ((λ m. m), tt) (types.0, tt) (subst (OfGives p) same known.0) in
+    ap (λ v. after v (in_turn with_function_group groups)) step
+    ∙ each_declared p typed all ds groups (and_functions names (given of) one) listed are (others_new names d.name d.args (given of) ds differ.0 new.1) differ.1 types.1 known.1
+    ∙ ap (λ fs. fine (with_signatures names fs)) (append_assoc names.functions (signed (given of) (d.name, d.args) ∷ []) (map declared_as ds))
+    ∙ ap (λ (g : Gives). fine (with_signatures names (names.functions ++ signed g (d.name, d.args) ∷ map declared_as ds))) (sym same)
+
+pub each_function_is_named : EachFunctionIsNamed
+each_function_is_named p typed all ds groups names listed are new differ types known = each_declared p typed all ds groups names listed are new differ types known

@@ -47,3 +47,12 @@ domain_names p = record {
   predicates = map (λ (d : Predicate). (d.name, d.args)) p.predicates;
   functions = map (λ (d : Function). (d.name, signature_of d)) p.functions;
 }
+
+-- what was declared, and behind it these functions
+abbrev pub with_each : Declarations → List Function → Declarations
+with_each names ds = record {
+  types = names.types;
+  objects = names.objects;
+  predicates = names.predicates;
+  functions = names.functions ++ map (λ (d : Function). (d.name, signature_of d)) ds;
+}

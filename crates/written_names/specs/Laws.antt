@@ -9,13 +9,17 @@ use Rattle.up_tree.specs.declared.formula.Formula.{Formula}
 use Rattle.up_tree.specs.declared.action.Row.{Row}
 use Rattle.up_tree.specs.declared.action.Action.{Action}
 use Rattle.up_tree.specs.declared.problem.Parts.{Parts}
+use Rattle.up_tree.specs.declared.problem.Function.{Function}
 use Rattle.up_tree.specs.WellFormed as tree
 use Rattle.up_tree.specs.WellFormed.{IsBelow, IsType, OfGives, IsPlainExpr, IsPlain, IsRow, IsAction, IsWellFormed, term_type}
+use Rattle.up_kind.specs.declared.feature.Feature.TheVariants.{FlatTyping}
+use Rattle.up_kind.specs.Carried.{carries}
 use Rattle.pddl_lex.specs.Verdicts.{fine}
 use Rattle.pddl_parse.specs.declared.raw.RawTerm.{RawTerm}
 use Rattle.pddl_parse.specs.declared.raw.RawGroup.{RawGroup}
 use Rattle.pddl_parse.specs.declared.raw.RawSymbol.{RawSymbol}
 use Rattle.pddl_parse.specs.declared.raw.RawGives.{RawGives}
+use Rattle.pddl_parse.specs.declared.raw.RawFunctions.{RawFunctions}
 use Rattle.pddl_parse.specs.declared.raw.RawFormula.{RawFormula}
 use Rattle.pddl_parse.specs.declared.raw.RawEffect.{RawEffect}
 use Rattle.pddl_parse.specs.declared.raw.RawAction.{RawAction}
@@ -30,11 +34,11 @@ use Rattle.up_phrase.specs.Conditions.{formula}
 use Rattle.up_effect.specs.Effects.{within, rows}
 use Rattle.up_effect.specs.Actions as read
 use Rattle.up_declare.specs.Types.{types}
-use Rattle.up_declare.specs.Declaring.{with_objects, with_predicates, given, with_function_group}
+use Rattle.up_declare.specs.Declaring.{with_objects, with_predicates, given, with_function_group, with_functions}
 use Rattle.written_forms.specs.Raw.{AreRawGroups, IsRawTerm, IsRawExpr, IsRawFormula}
 use Rattle.written_forms.specs.RawEffects.{AreRawRows, IsRawAll, IsRawAction}
-use Rattle.written_names.specs.Agree.{entry, Agree, SameScope, TypesWritten, and_objects, domain_names}
-use Rattle.written_names.specs.Symbols.{AreSymbols, IsNew, and_predicates, and_functions}
+use Rattle.written_names.specs.Agree.{entry, Agree, SameScope, TypesWritten, and_objects, domain_names, with_each}
+use Rattle.written_names.specs.Symbols.{AreSymbols, AreOwnGroups, IsNew, and_predicates, and_functions}
 
 -- the type is at or below the one due, where one is due
 abbrev pub IsDue : Parts → Option Name → Option Name → Type 0
@@ -118,7 +122,18 @@ FunctionsAreNamed =
     → Every (λ e. Every (IsType p) e.1) entries → OfGives p (given of)
     → with_function_group (record { functions = symbols; gives = of }) names ≡ fine (and_functions names (given of) entries)
 
+-- the same of functions, each in a group of its own
+abbrev pub EachFunctionIsNamed : Type 0
+EachFunctionIsNamed =
+    (p : Parts) (typed : Bool) → TypesWritten typed p → (ds : List Function) (groups : List RawFunctions) (names : Declarations) → names.types ≡ map entry p.types
+    → AreOwnGroups typed ds groups → Every (λ d. IsNew names d.name) ds → Differ (map (λ d. d.name) ds) → Every (λ d. Every (IsType p) d.args) ds
+    → Every (λ d. OfGives p d.gives) ds → with_functions groups names ≡ fine (with_each names ds)
+
 -- what a domain declares agrees with the problem where only its constants may be named, and with the objects of the problem behind it,
 -- where all objects may be
 abbrev pub DeclaredAgree : Type 0
 DeclaredAgree = (p : Parts) → Agree (domain_names p) p (take p.constants p.objects) × Agree (and_objects (domain_names p) (drop p.constants p.objects)) p p.objects
+
+-- types are written of a problem that carries them
+abbrev pub TypesAreWritten : Type 0
+TypesAreWritten = (p : Parts) → TypesWritten (carries p FlatTyping) p

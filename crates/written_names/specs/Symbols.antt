@@ -2,8 +2,12 @@
 use Rattle.std.specs.Prelude.{◌≡◌, Bool, List, [], ◌∷◌, ◌++◌, map, None}
 use Rattle.up_text.specs.declared.name.Name.{Name}
 use Rattle.up_tree.specs.declared.term.Typed.{Typed}
+use Rattle.up_tree.specs.declared.problem.Function.{Function}
 use Rattle.up_tree.specs.declared.problem.Gives.{Gives}
 use Rattle.pddl_parse.specs.declared.raw.RawSymbol.{RawSymbol}
+use Rattle.pddl_parse.specs.declared.raw.RawFunctions.{RawFunctions}
+use Rattle.pddl_parse.specs.declared.raw.RawGives.{RawGives}
+use Rattle.up_declare.specs.Declaring.{given}
 use Rattle.up_phrase.specs.Declarations.{Declarations}
 use Rattle.up_phrase.specs.Lookups.{predicate_of, function_of}
 use Rattle.written_forms.specs.Raw.{IsEmpty, IsFirst, IsRawName, AreRawGroups}
@@ -32,3 +36,13 @@ and_predicates names entries =
 abbrev pub and_functions : Declarations → Gives → List (Name × List Name) → Declarations
 and_functions names g entries =
     record { types = names.types; objects = names.objects; predicates = names.predicates; functions = names.functions ++ map (λ e. (e.0, record { args = e.1; gives = g })) entries }
+
+-- a group of a function alone
+pub data IsOwnGroup (typed : Bool) (d : Function) : RawFunctions → Type 0 where
+  own_group : (symbol : RawSymbol) (of : RawGives) → IsSymbol typed d.name d.args symbol → d.gives ≡ given of
+      → IsOwnGroup typed d (record { functions = symbol ∷ []; gives = of })
+
+-- one for each function
+abbrev pub AreOwnGroups : Bool → List Function → List RawFunctions → Type 0
+AreOwnGroups typed [] groups = IsEmpty groups
+AreOwnGroups typed (d ∷ ds) groups = IsFirst (IsOwnGroup typed d) (AreOwnGroups typed ds) groups

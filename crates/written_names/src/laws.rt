@@ -1,4 +1,4 @@
-ghost use Rattle.written_names.specs.Laws.{ActionsAreNamed, ConditionsAreNamed, DeclaredAgree, EffectsAreNamed, ExpressionsAreNamed, FunctionsAreNamed, ObjectsAreNamed, PlainConditionsAreNamed, PlainExpressionsAreNamed, PredicatesAreNamed, TermsAreNamed, TypesAreNamed};
+ghost use Rattle.written_names.specs.Laws.{ActionsAreNamed, ConditionsAreNamed, DeclaredAgree, EachFunctionIsNamed, EffectsAreNamed, ExpressionsAreNamed, FunctionsAreNamed, ObjectsAreNamed, PlainConditionsAreNamed, PlainExpressionsAreNamed, PredicatesAreNamed, TermsAreNamed, TypesAreNamed, TypesAreWritten};
 
 /// A law: the abstract syntax of a term of a well formed problem is read as the term, where an object of its type or of one
 /// above it is due.
@@ -56,8 +56,18 @@ pub fn functions_are_named()
     ensures { FunctionsAreNamed }
 {}
 
+/// A law: written functions, each in a group of its own, are declared with the types of their arguments and what they give.
+pub fn each_function_is_named()
+    ensures { EachFunctionIsNamed }
+{}
+
 /// A law: what the types, constants, predicates and functions of a problem declare agrees with its parts, and so does that with
 /// its other objects.
 pub fn declared_agree()
     ensures { DeclaredAgree }
+{}
+
+/// A law: the writer leaves types out only where the problem declares none.
+pub fn types_are_written()
+    ensures { TypesAreWritten }
 {}
