@@ -5,7 +5,7 @@ use Rattle.up_text.specs.declared.place.Place.{Place}
 use Rattle.up_tree.specs.declared.term.Typed.{Typed}
 use Rattle.up_tree.specs.declared.term.Term.{Term, Var, Object, Fluent'}
 use Rattle.up_tree.specs.declared.expr.Expr.{Expr, Number, Fluent}
-use Rattle.up_tree.specs.declared.formula.Formula.{Formula, And, And', Or, Or', Not, Imply, Exists, Forall, Atom, Equal, Compare, Row_of-Formula, end_of-Formula, more_of-Formula, items-the_row-Formula}
+use Rattle.up_tree.specs.declared.formula.Formula.{Formula, And, And', Or, Or', Not, Exists, Forall, Atom, Equal, Compare, Row_of-Formula, end_of-Formula, more_of-Formula, items-the_row-Formula}
 use Rattle.up_tree.specs.declared.problem.Predicate.{Predicate}
 use Rattle.up_tree.specs.declared.problem.Function.{Function}
 use Rattle.up_tree.specs.declared.problem.Parts.{Parts}
