@@ -1,0 +1,4 @@
+pub mod Verdicts
+pub mod Tables
+pub mod Terms
+pub mod Exprs

@@ -1,0 +1,26 @@
+-- What is read is well formed, phrase by phrase.
+use Rattle.std.specs.Prelude.{List, Option}
+use Rattle.up_text.specs.declared.name.Name.{Name}
+use Rattle.up_tree.specs.declared.term.Typed.{Typed}
+use Rattle.up_tree.specs.declared.problem.Parts.{Parts}
+use Rattle.up_tree.specs.WellFormed.{IsExpr}
+use Rattle.pddl_parse.specs.declared.raw.RawTerm.{RawTerm}
+use Rattle.up_phrase.specs.declared.term.Setting.{Setting}
+use Rattle.up_phrase.specs.Declarations.{Declarations}
+use Rattle.up_phrase.specs.Scopes.{Variables}
+use Rattle.up_phrase.specs.Terms.{term}
+use Rattle.up_phrase.specs.Exprs.{expr}
+use Rattle.read_laws.specs.Agreement.{IfFine, Agree, AgreeInScope, IsTermDue}
+use Rattle.read_laws.specs.Literal.{HasLiterals}
+
+abbrev pub TermsAreWellFormed : Type 0
+TermsAreWellFormed =
+    (names : Declarations) (p : Parts) (objects : List Typed) → Agree names p objects
+    → (vars : Variables) (scope : List Typed) → AgreeInScope p vars scope
+    → (s : Setting) (raw : RawTerm) (due : Option Name) → IfFine (term names vars s raw due) (IsTermDue p objects scope due)
+
+abbrev pub ExpressionsAreWellFormed : Type 0
+ExpressionsAreWellFormed =
+    (names : Declarations) (p : Parts) (objects : List Typed) → Agree names p objects
+    → (vars : Variables) (scope : List Typed) → AgreeInScope p vars scope
+    → (s : Setting) (raw : RawTerm) → HasLiterals raw → IfFine (expr names vars s raw) (IsExpr p objects scope)

@@ -1,0 +1,11 @@
+ghost use Rattle.read_laws.specs.Laws.{ExpressionsAreWellFormed, TermsAreWellFormed};
+
+/// A law: a raw term that is read as an object term is one, of the type that is due.
+pub fn read_terms_are_well_formed()
+    ensures { TermsAreWellFormed }
+{}
+
+/// A law: a raw term with literals for its numbers that is read as an expression is one.
+pub fn read_expressions_are_well_formed()
+    ensures { ExpressionsAreWellFormed }
+{}

@@ -1,0 +1,6 @@
+//! Laws of what is read: it is well formed.
+#![tactic(auto)]
+
+mod laws;
+
+pub use laws::{read_expressions_are_well_formed, read_terms_are_well_formed};
