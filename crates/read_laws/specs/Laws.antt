@@ -3,15 +3,17 @@ use Rattle.std.specs.Prelude.{List, Option}
 use Rattle.up_text.specs.declared.name.Name.{Name}
 use Rattle.up_tree.specs.declared.term.Typed.{Typed}
 use Rattle.up_tree.specs.declared.problem.Parts.{Parts}
-use Rattle.up_tree.specs.WellFormed.{IsExpr}
+use Rattle.up_tree.specs.WellFormed.{IsExpr, IsFormula}
 use Rattle.pddl_parse.specs.declared.raw.RawTerm.{RawTerm}
+use Rattle.pddl_parse.specs.declared.raw.RawFormula.{RawFormula}
 use Rattle.up_phrase.specs.declared.term.Setting.{Setting}
 use Rattle.up_phrase.specs.Declarations.{Declarations}
 use Rattle.up_phrase.specs.Scopes.{Variables}
 use Rattle.up_phrase.specs.Terms.{term}
 use Rattle.up_phrase.specs.Exprs.{expr}
+use Rattle.up_phrase.specs.Conditions.{formula}
 use Rattle.read_laws.specs.Agreement.{IfFine, Agree, AgreeInScope, IsTermDue}
-use Rattle.read_laws.specs.Literal.{HasLiterals}
+use Rattle.read_laws.specs.Literal.{HasLiterals, IsWritten}
 
 abbrev pub TermsAreWellFormed : Type 0
 TermsAreWellFormed =
@@ -24,3 +26,9 @@ ExpressionsAreWellFormed =
     (names : Declarations) (p : Parts) (objects : List Typed) → Agree names p objects
     → (vars : Variables) (scope : List Typed) → AgreeInScope p vars scope
     → (s : Setting) (raw : RawTerm) → HasLiterals raw → IfFine (expr names vars s raw) (IsExpr p objects scope)
+
+abbrev pub ConditionsAreWellFormed : Type 0
+ConditionsAreWellFormed =
+    (names : Declarations) (p : Parts) (objects : List Typed) → Agree names p objects
+    → (vars : Variables) (scope : List Typed) → AgreeInScope p vars scope
+    → (s : Setting) (raw : RawFormula) → IsWritten raw → IfFine (formula names vars s raw) (IsFormula p objects scope)

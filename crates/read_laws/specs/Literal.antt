@@ -1,8 +1,15 @@
 -- Raw forms whose numbers are literals and whose variables have names.
-use Rattle.std.specs.Prelude.{⊤}
+use Rattle.std.specs.Prelude.{⊤, List}
+use Rattle.up_text.specs.Names.{IsName}
+use Rattle.up_text.specs.Lists.{Every}
 use Rattle.up_tree.specs.WellFormed.{IsLiteral}
 use Rattle.pddl_parse.specs.declared.raw.RawTerm.{RawTerm, Row_of-RawTerm, end_of-RawTerm, more_of-RawTerm}
 use Rattle.pddl_parse.specs.declared.raw.RawTerm as form
+use Rattle.pddl_parse.specs.declared.raw.Ident.{Ident}
+use Rattle.pddl_parse.specs.declared.raw.RawGroup.{RawGroup}
+use Rattle.pddl_parse.specs.declared.raw.RawFormula.{RawFormula, Row_of-RawFormula, end_of-RawFormula, more_of-RawFormula}
+use Rattle.pddl_parse.specs.declared.raw.RawFormula as formula
+use Rattle.up_phrase.specs.Nodes.{not, imply, exists, forall}
 
 unfoldable mutual
   -- each number in the term is a literal
@@ -16,3 +23,23 @@ unfoldable mutual
   pub HaveLiterals : {n : _} → Row_of-RawTerm n → Type 0
   HaveLiterals end_of-RawTerm = ⊤
   HaveLiterals (more_of-RawTerm t ts) = HasLiterals t × HaveLiterals ts
+
+-- the variables of a typed list have names that may be declared
+abbrev pub HaveNames : List RawGroup → Type 0
+HaveNames groups = Every (λ (group : RawGroup). Every (λ (it : Ident). IsName it.name) group.names) groups
+
+unfoldable mutual
+  -- the numbers that the condition compares are literals, and the variables that it binds have names
+  pub IsWritten : RawFormula → Type 0
+  IsWritten (formula.And' n members) = AreWritten members
+  IsWritten (formula.Or' n members) = AreWritten members
+  IsWritten (not f) = IsWritten f
+  IsWritten (imply f g) = IsWritten f × IsWritten g
+  IsWritten (exists groups f) = HaveNames groups × IsWritten f
+  IsWritten (forall groups f) = HaveNames groups × IsWritten f
+  IsWritten (formula.Atom place p args) = ⊤
+  IsWritten (formula.Compare place r left right) = HasLiterals left × HasLiterals right
+
+  pub AreWritten : {n : _} → Row_of-RawFormula n → Type 0
+  AreWritten end_of-RawFormula = ⊤
+  AreWritten (more_of-RawFormula f fs) = IsWritten f × AreWritten fs

@@ -1,4 +1,4 @@
-ghost use Rattle.read_laws.specs.Laws.{ExpressionsAreWellFormed, TermsAreWellFormed};
+ghost use Rattle.read_laws.specs.Laws.{ConditionsAreWellFormed, ExpressionsAreWellFormed, TermsAreWellFormed};
 
 /// A law: a raw term that is read as an object term is one, of the type that is due.
 pub fn read_terms_are_well_formed()
@@ -8,4 +8,10 @@ pub fn read_terms_are_well_formed()
 /// A law: a raw term with literals for its numbers that is read as an expression is one.
 pub fn read_expressions_are_well_formed()
     ensures { ExpressionsAreWellFormed }
+{}
+
+/// A law: a raw condition with literals for the numbers that it compares and names for the variables that it binds, if it
+/// is read, is read as a condition.
+pub fn read_conditions_are_well_formed()
+    ensures { ConditionsAreWellFormed }
 {}

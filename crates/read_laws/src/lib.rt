@@ -3,4 +3,6 @@
 
 mod laws;
 
-pub use laws::{read_expressions_are_well_formed, read_terms_are_well_formed};
+pub use laws::{
+    read_conditions_are_well_formed, read_expressions_are_well_formed, read_terms_are_well_formed,
+};
