@@ -123,7 +123,7 @@ module _ (names : Declarations) (p : Parts) (objects : List Typed) (agree : Agre
   members_are scope fs are =
       row_is scope (hidden-the_row-Formula-0 fs) (subst (Every (IsFormula p objects scope)) (sym (items_hidden-the_row-Formula-0 fs)) are)
 
-  and_is : (scope : List Typed) (fs : List Formula) → Every (IsFormula p objects scope) fs → IsFormula p objects scope (And fs)
+  pub and_is : (scope : List Typed) (fs : List Formula) → Every (IsFormula p objects scope) fs → IsFormula p objects scope (And fs)
   unfolding IsFormula
   and_is scope fs are = members_are scope fs are
 

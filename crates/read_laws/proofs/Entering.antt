@@ -44,7 +44,7 @@ module _ (barred : List Name) where
   AreAdded vars [] = ⊤
   AreAdded vars (e ∷ es) = IsName e.0 × (¬ Member e.0 (names_in vars)) × (¬ Member e.0 barred) × AreAdded (vars ++ e ∷ []) es
 
-  added_both : (vars one two : Variables) → AreAdded vars one → AreAdded (vars ++ one) two → AreAdded vars (one ++ two)
+  pub added_both : (vars one two : Variables) → AreAdded vars one → AreAdded (vars ++ one) two → AreAdded vars (one ++ two)
   added_both vars [] two is more = subst (λ vs. AreAdded vs two) (append-nil vars) more
   added_both vars (e ∷ es) two is more =
       (is.0, is.1, is.2, added_both (vars ++ e ∷ []) es two is.3 (subst (λ vs. AreAdded vs two) (sym (append_assoc vars (e ∷ []) es)) more))
@@ -133,7 +133,7 @@ module _ (barred : List Name) where
 
 module _ (p : Parts) (vars : Variables) (scope : List Typed) (in_scope : AgreeInScope p vars scope) where
   -- a name in the scope is that of a variable
-  in_vars : (name : Name) → Member name (map (λ v. v.name) scope) → Member name (names_in vars)
+  pub in_vars : (name : Name) → Member name (map (λ v. v.name) scope) → Member name (names_in vars)
   in_vars name m = by (variable_type vars name) refl (ap is_some (sym (in_scope.same name)) ∙ has_type name scope m)
     where
       by : (o : Option Name) → variable_type vars name ≡ o → is_some (variable_type vars name) ≡ true → Member name (names_in vars)

@@ -5,3 +5,7 @@ pub mod Exprs
 pub mod Members
 pub mod Entering
 pub mod Conditions
+pub mod Widening
+pub mod Effects
+pub mod Rows
+pub mod Actions

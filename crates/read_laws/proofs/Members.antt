@@ -115,3 +115,21 @@ has_type name (v ∷ scope) (inr m) = by (same_name v.name name) (has_type name 
     by : (b : Bool) → is_some (type_in scope name) ≡ true → is_some (option_map (λ entry. entry.of) (cond b (Some v) (named scope name))) ≡ true
     by true rest = refl
     by false rest = rest
+
+-- and what has a type there is a name in it
+pub named_there : (name : Name) (scope : List Typed) → is_some (type_in scope name) ≡ true → Member name (map (λ v. v.name) scope)
+named_there name [] some = absurd (true≢false (sym some))
+named_there name (v ∷ scope) some = by (same_name v.name name) refl some (named_there name scope)
+  where
+    by : (b : Bool) → same_name v.name name ≡ b → is_some (option_map (λ entry. entry.of) (cond b (Some v) (named scope name))) ≡ true
+        → (is_some (type_in scope name) ≡ true → Member name (map (λ v. v.name) scope)) → Member name (map (λ v. v.name) (v ∷ scope))
+    by true same here rest = inl (sym ((bytes_decides v.name name).0 same))
+    by false other here rest = inr (rest here)
+
+pub any_member : (name : Name) (xs : List Name) → list_any (same_name name) xs ≡ true → Member name xs
+any_member name [] e = absurd (true≢false (sym e))
+any_member name (x ∷ xs) e = by (same_name name x) refl e (any_member name xs)
+  where
+    by : (b : Bool) → same_name name x ≡ b → (b || list_any (same_name name) xs) ≡ true → (list_any (same_name name) xs ≡ true → Member name xs) → Member name (x ∷ xs)
+    by true is e rest = inl ((bytes_decides name x).0 is)
+    by false is e rest = inr (rest e)

@@ -1,19 +1,21 @@
 -- What is read is well formed, phrase by phrase.
-use Rattle.std.specs.Prelude.{List, Option}
+use Rattle.std.specs.Prelude.{List, Option, take}
 use Rattle.up_text.specs.declared.name.Name.{Name}
 use Rattle.up_tree.specs.declared.term.Typed.{Typed}
 use Rattle.up_tree.specs.declared.problem.Parts.{Parts}
-use Rattle.up_tree.specs.WellFormed.{IsExpr, IsFormula}
+use Rattle.up_tree.specs.WellFormed.{IsAction, IsExpr, IsFormula}
 use Rattle.pddl_parse.specs.declared.raw.RawTerm.{RawTerm}
 use Rattle.pddl_parse.specs.declared.raw.RawFormula.{RawFormula}
+use Rattle.pddl_parse.specs.declared.raw.RawAction.{RawAction}
 use Rattle.up_phrase.specs.declared.term.Setting.{Setting}
 use Rattle.up_phrase.specs.Declarations.{Declarations}
 use Rattle.up_phrase.specs.Scopes.{Variables}
 use Rattle.up_phrase.specs.Terms.{term}
 use Rattle.up_phrase.specs.Exprs.{expr}
 use Rattle.up_phrase.specs.Conditions.{formula}
+use Rattle.up_effect.specs.Actions.{action}
 use Rattle.read_laws.specs.Agreement.{IfFine, Agree, AgreeInScope, IsTermDue}
-use Rattle.read_laws.specs.Literal.{HasLiterals, IsWritten}
+use Rattle.read_laws.specs.Literal.{HasLiterals, IsWritten, IsWrittenAction}
 
 abbrev pub TermsAreWellFormed : Type 0
 TermsAreWellFormed =
@@ -32,3 +34,9 @@ ConditionsAreWellFormed =
     (names : Declarations) (p : Parts) (objects : List Typed) → Agree names p objects
     → (vars : Variables) (scope : List Typed) → AgreeInScope p vars scope
     → (s : Setting) (raw : RawFormula) → IsWritten raw → IfFine (formula names vars s raw) (IsFormula p objects scope)
+
+-- an action is read where the domain's objects are declared
+abbrev pub ActionsAreWellFormed : Type 0
+ActionsAreWellFormed =
+    (names : Declarations) (p : Parts) → Agree names p (take p.constants p.objects)
+    → (raw : RawAction) → IsWrittenAction raw → IfFine (action names raw) (IsAction p)

@@ -9,7 +9,11 @@ use Rattle.pddl_parse.specs.declared.raw.Ident.{Ident}
 use Rattle.pddl_parse.specs.declared.raw.RawGroup.{RawGroup}
 use Rattle.pddl_parse.specs.declared.raw.RawFormula.{RawFormula, Row_of-RawFormula, end_of-RawFormula, more_of-RawFormula}
 use Rattle.pddl_parse.specs.declared.raw.RawFormula as formula
+use Rattle.pddl_parse.specs.declared.raw.RawEffect.{RawEffect, Row_of-RawEffect, end_of-RawEffect, more_of-RawEffect}
+use Rattle.pddl_parse.specs.declared.raw.RawEffect as effect
+use Rattle.pddl_parse.specs.declared.raw.RawAction.{RawAction}
 use Rattle.up_phrase.specs.Nodes.{not, imply, exists, forall}
+use Rattle.up_effect.specs.Nodes.{for_all, when}
 
 unfoldable mutual
   -- each number in the term is a literal
@@ -43,3 +47,24 @@ unfoldable mutual
   pub AreWritten : {n : _} → Row_of-RawFormula n → Type 0
   AreWritten end_of-RawFormula = ⊤
   AreWritten (more_of-RawFormula f fs) = IsWritten f × AreWritten fs
+
+unfoldable mutual
+  -- the same of an effect
+  pub IsWrittenEffect : RawEffect → Type 0
+  IsWrittenEffect (effect.And' n members) = AreWrittenEffects members
+  IsWrittenEffect (for_all groups body) = HaveNames groups × IsWrittenEffect body
+  IsWrittenEffect (when condition body) = IsWritten condition × IsWrittenEffect body
+  IsWrittenEffect (effect.Add it) = ⊤
+  IsWrittenEffect (effect.Delete it) = ⊤
+  IsWrittenEffect (effect.Change c it value) = HasLiterals value
+  IsWrittenEffect (effect.Undefine it place) = ⊤
+
+  pub AreWrittenEffects : {n : _} → Row_of-RawEffect n → Type 0
+  AreWrittenEffects end_of-RawEffect = ⊤
+  AreWrittenEffects (more_of-RawEffect e es) = IsWrittenEffect e × AreWrittenEffects es
+
+-- the same of an action
+pub record IsWrittenAction (raw : RawAction) : Type 0 where
+  pub params : HaveNames raw.params
+  pub pre : IsWritten raw.pre
+  pub effect : IsWrittenEffect raw.effect

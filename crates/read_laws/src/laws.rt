@@ -1,4 +1,4 @@
-ghost use Rattle.read_laws.specs.Laws.{ConditionsAreWellFormed, ExpressionsAreWellFormed, TermsAreWellFormed};
+ghost use Rattle.read_laws.specs.Laws.{ActionsAreWellFormed, ConditionsAreWellFormed, ExpressionsAreWellFormed, TermsAreWellFormed};
 
 /// A law: a raw term that is read as an object term is one, of the type that is due.
 pub fn read_terms_are_well_formed()
@@ -14,4 +14,9 @@ pub fn read_expressions_are_well_formed()
 /// is read, is read as a condition.
 pub fn read_conditions_are_well_formed()
     ensures { ConditionsAreWellFormed }
+{}
+
+/// A law: a raw action with literals for its numbers and names for its variables, if it is read, is read as an action.
+pub fn read_actions_are_well_formed()
+    ensures { ActionsAreWellFormed }
 {}
