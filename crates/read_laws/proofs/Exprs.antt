@@ -40,12 +40,12 @@ use Rattle.read_laws.proofs.Verdicts.{fine_over, fine_after, fine_all}
 use Rattle.read_laws.proofs.Tables.{function_is, at_some}
 use Rattle.read_laws.proofs.Terms.{applied_are, terms_are}
 
-every_take : {X : Type 0} (P : X → Type 0) (n : ℕ) (xs : List X) → Every P xs → Every P (take n xs)
+pub every_take : {X : Type 0} (P : X → Type 0) (n : ℕ) (xs : List X) → Every P xs → Every P (take n xs)
 every_take P zero xs are = tt
 every_take P (suc n) [] are = tt
 every_take P (suc n) (x ∷ xs) are = (are.0, every_take P n xs are.1)
 
-every_drop : {X : Type 0} (P : X → Type 0) (n : ℕ) (xs : List X) → Every P xs → Every P (drop n xs)
+pub every_drop : {X : Type 0} (P : X → Type 0) (n : ℕ) (xs : List X) → Every P xs → Every P (drop n xs)
 every_drop P zero xs are = are
 every_drop P (suc n) [] are = tt
 every_drop P (suc n) (x ∷ xs) are = every_drop P n xs are.1

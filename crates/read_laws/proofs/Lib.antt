@@ -9,3 +9,5 @@ pub mod Widening
 pub mod Effects
 pub mod Rows
 pub mod Actions
+pub mod Plain
+pub mod Constraints

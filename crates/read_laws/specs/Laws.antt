@@ -1,11 +1,14 @@
 -- What is read is well formed, phrase by phrase.
-use Rattle.std.specs.Prelude.{List, Option, take}
+use Rattle.std.specs.Prelude.{List, [], Option, take}
+use Rattle.up_text.specs.Lists.{Every}
 use Rattle.up_text.specs.declared.name.Name.{Name}
 use Rattle.up_tree.specs.declared.term.Typed.{Typed}
 use Rattle.up_tree.specs.declared.problem.Parts.{Parts}
-use Rattle.up_tree.specs.WellFormed.{IsAction, IsExpr, IsFormula}
+use Rattle.up_tree.specs.WellFormed.{IsAction, IsConstraint, IsExpr, IsFormula, OnMetric}
 use Rattle.pddl_parse.specs.declared.raw.RawTerm.{RawTerm}
 use Rattle.pddl_parse.specs.declared.raw.RawFormula.{RawFormula}
+use Rattle.pddl_parse.specs.declared.raw.RawConstraint.{RawConstraint}
+use Rattle.pddl_parse.specs.declared.raw.RawMetric.{RawMetric}
 use Rattle.pddl_parse.specs.declared.raw.RawAction.{RawAction}
 use Rattle.up_phrase.specs.declared.term.Setting.{Setting}
 use Rattle.up_phrase.specs.Declarations.{Declarations}
@@ -14,8 +17,10 @@ use Rattle.up_phrase.specs.Terms.{term}
 use Rattle.up_phrase.specs.Exprs.{expr}
 use Rattle.up_phrase.specs.Conditions.{formula}
 use Rattle.up_effect.specs.Actions.{action}
+use Rattle.up_check.specs.Constraints.{constraints}
+use Rattle.up_check.specs.Metrics.{metric_of}
 use Rattle.read_laws.specs.Agreement.{IfFine, Agree, AgreeInScope, IsTermDue}
-use Rattle.read_laws.specs.Literal.{HasLiterals, IsWritten, IsWrittenAction}
+use Rattle.read_laws.specs.Literal.{HasLiterals, IsWritten, IsWrittenAction, IsWrittenConstraint, IsWrittenMetric}
 
 abbrev pub TermsAreWellFormed : Type 0
 TermsAreWellFormed =
@@ -40,3 +45,13 @@ abbrev pub ActionsAreWellFormed : Type 0
 ActionsAreWellFormed =
     (names : Declarations) (p : Parts) → Agree names p (take p.constants p.objects)
     → (raw : RawAction) → IsWrittenAction raw → IfFine (action names raw) (IsAction p)
+
+abbrev pub ConstraintsAreWellFormed : Type 0
+ConstraintsAreWellFormed =
+    (names : Declarations) (p : Parts) → Agree names p p.objects
+    → (raw : RawConstraint) → IsWrittenConstraint raw → IfFine (constraints names [] raw) (Every (IsConstraint p))
+
+abbrev pub MetricsAreWellFormed : Type 0
+MetricsAreWellFormed =
+    (names : Declarations) (p : Parts) → Agree names p p.objects
+    → (raw : Option RawMetric) → IsWrittenMetric raw → IfFine (metric_of names raw) (OnMetric p)

@@ -1,5 +1,5 @@
 -- Raw forms whose numbers are literals and whose variables have names.
-use Rattle.std.specs.Prelude.{⊤, List}
+use Rattle.std.specs.Prelude.{⊤, List, Option, Some, None}
 use Rattle.up_text.specs.Names.{IsName}
 use Rattle.up_text.specs.Lists.{Every}
 use Rattle.up_tree.specs.WellFormed.{IsLiteral}
@@ -12,7 +12,11 @@ use Rattle.pddl_parse.specs.declared.raw.RawFormula as formula
 use Rattle.pddl_parse.specs.declared.raw.RawEffect.{RawEffect, Row_of-RawEffect, end_of-RawEffect, more_of-RawEffect}
 use Rattle.pddl_parse.specs.declared.raw.RawEffect as effect
 use Rattle.pddl_parse.specs.declared.raw.RawAction.{RawAction}
+use Rattle.pddl_parse.specs.declared.raw.RawConstraint.{RawConstraint, Row_of-RawConstraint, end_of-RawConstraint, more_of-RawConstraint}
+use Rattle.pddl_parse.specs.declared.raw.RawConstraint as constraint
+use Rattle.pddl_parse.specs.declared.raw.RawMetric.{RawMetric}
 use Rattle.up_phrase.specs.Nodes.{not, imply, exists, forall}
+use Rattle.up_check.specs.Nodes.{forall as each_of}
 use Rattle.up_effect.specs.Nodes.{for_all, when}
 
 unfoldable mutual
@@ -68,3 +72,23 @@ pub record IsWrittenAction (raw : RawAction) : Type 0 where
   pub params : HaveNames raw.params
   pub pre : IsWritten raw.pre
   pub effect : IsWrittenEffect raw.effect
+
+unfoldable mutual
+  -- the same of a constraint
+  pub IsWrittenConstraint : RawConstraint → Type 0
+  IsWrittenConstraint (constraint.And' n members) = AreWrittenConstraints members
+  IsWrittenConstraint (each_of groups body) = HaveNames groups × IsWrittenConstraint body
+  IsWrittenConstraint (constraint.Always f) = IsWritten f
+  IsWrittenConstraint (constraint.Sometime f) = IsWritten f
+  IsWrittenConstraint (constraint.AtMostOnce f) = IsWritten f
+  IsWrittenConstraint (constraint.SometimeAfter f g) = IsWritten f × IsWritten g
+  IsWrittenConstraint (constraint.SometimeBefore f g) = IsWritten f × IsWritten g
+
+  pub AreWrittenConstraints : {n : _} → Row_of-RawConstraint n → Type 0
+  AreWrittenConstraints end_of-RawConstraint = ⊤
+  AreWrittenConstraints (more_of-RawConstraint c cs) = IsWrittenConstraint c × AreWrittenConstraints cs
+
+-- and of a metric, if there is one
+abbrev pub IsWrittenMetric : Option RawMetric → Type 0
+IsWrittenMetric None = ⊤
+IsWrittenMetric (Some raw) = HasLiterals raw.value

@@ -1,4 +1,4 @@
-ghost use Rattle.read_laws.specs.Laws.{ActionsAreWellFormed, ConditionsAreWellFormed, ExpressionsAreWellFormed, TermsAreWellFormed};
+ghost use Rattle.read_laws.specs.Laws.{ActionsAreWellFormed, ConditionsAreWellFormed, ConstraintsAreWellFormed, ExpressionsAreWellFormed, MetricsAreWellFormed, TermsAreWellFormed};
 
 /// A law: a raw term that is read as an object term is one, of the type that is due.
 pub fn read_terms_are_well_formed()
@@ -19,4 +19,16 @@ pub fn read_conditions_are_well_formed()
 /// A law: a raw action with literals for its numbers and names for its variables, if it is read, is read as an action.
 pub fn read_actions_are_well_formed()
     ensures { ActionsAreWellFormed }
+{}
+
+/// A law: raw constraints with literals for their numbers and names for their variables, if they are read, are read as
+/// constraints, each of which holds no comparison and no object function's value.
+pub fn read_constraints_are_well_formed()
+    ensures { ConstraintsAreWellFormed }
+{}
+
+/// A law: a raw metric with literals for its numbers, if it is read, is read as a metric, no argument of whose functions
+/// is an object function's value.
+pub fn read_metrics_are_well_formed()
+    ensures { MetricsAreWellFormed }
 {}
