@@ -11,3 +11,4 @@ pub mod Rows
 pub mod Actions
 pub mod Plain
 pub mod Constraints
+pub mod Facts

@@ -32,7 +32,7 @@ use Rattle.read_laws.specs.Laws.{TermsAreWellFormed}
 use Rattle.read_laws.proofs.Verdicts.{fine_as, fine_over, fine_two, fine_after, fine_behind, holds, none_behind}
 use Rattle.read_laws.proofs.Tables.{under_is, function_is, at_some, is_there}
 
-same_length : (m n : ℕ) → (m == n) ≡ true → m ≡ n
+pub same_length : (m n : ℕ) → (m == n) ≡ true → m ≡ n
 same_length m n e = grind (arith, nat_tests)
 
 module _ (names : Declarations) (p : Parts) (objects : List Typed) (agree : Agree names p objects)

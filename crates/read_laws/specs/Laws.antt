@@ -9,6 +9,7 @@ use Rattle.pddl_parse.specs.declared.raw.RawTerm.{RawTerm}
 use Rattle.pddl_parse.specs.declared.raw.RawFormula.{RawFormula}
 use Rattle.pddl_parse.specs.declared.raw.RawConstraint.{RawConstraint}
 use Rattle.pddl_parse.specs.declared.raw.RawMetric.{RawMetric}
+use Rattle.pddl_parse.specs.declared.raw.RawInit.{RawInit}
 use Rattle.pddl_parse.specs.declared.raw.RawAction.{RawAction}
 use Rattle.up_phrase.specs.declared.term.Setting.{Setting}
 use Rattle.up_phrase.specs.Declarations.{Declarations}
@@ -18,8 +19,10 @@ use Rattle.up_phrase.specs.Exprs.{expr}
 use Rattle.up_phrase.specs.Conditions.{formula}
 use Rattle.up_effect.specs.Actions.{action}
 use Rattle.up_check.specs.Constraints.{constraints}
+use Rattle.up_check.specs.Initial.{initial}
 use Rattle.up_check.specs.Metrics.{metric_of}
 use Rattle.read_laws.specs.Agreement.{IfFine, Agree, AgreeInScope, IsTermDue}
+use Rattle.read_laws.specs.Initial.{IsInitial, IsWrittenInit}
 use Rattle.read_laws.specs.Literal.{HasLiterals, IsWritten, IsWrittenAction, IsWrittenConstraint, IsWrittenMetric}
 
 abbrev pub TermsAreWellFormed : Type 0
@@ -55,3 +58,8 @@ abbrev pub MetricsAreWellFormed : Type 0
 MetricsAreWellFormed =
     (names : Declarations) (p : Parts) → Agree names p p.objects
     → (raw : Option RawMetric) → IsWrittenMetric raw → IfFine (metric_of names raw) (OnMetric p)
+
+abbrev pub InitialStatesAreWellFormed : Type 0
+InitialStatesAreWellFormed =
+    (names : Declarations) (p : Parts) → Agree names p p.objects
+    → (members : List RawInit) → Every IsWrittenInit members → IfFine (initial names members) (IsInitial p)

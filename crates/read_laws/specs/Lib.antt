@@ -1,3 +1,4 @@
 pub mod Agreement
 pub mod Literal
+pub mod Initial
 pub mod Laws

@@ -1,4 +1,4 @@
-ghost use Rattle.read_laws.specs.Laws.{ActionsAreWellFormed, ConditionsAreWellFormed, ConstraintsAreWellFormed, ExpressionsAreWellFormed, MetricsAreWellFormed, TermsAreWellFormed};
+ghost use Rattle.read_laws.specs.Laws.{ActionsAreWellFormed, ConditionsAreWellFormed, ConstraintsAreWellFormed, ExpressionsAreWellFormed, InitialStatesAreWellFormed, MetricsAreWellFormed, TermsAreWellFormed};
 
 /// A law: a raw term that is read as an object term is one, of the type that is due.
 pub fn read_terms_are_well_formed()
@@ -31,4 +31,10 @@ pub fn read_constraints_are_well_formed()
 /// is an object function's value.
 pub fn read_metrics_are_well_formed()
     ensures { MetricsAreWellFormed }
+{}
+
+/// A law: the members of an initial state with literals for its numbers, if they are read, are read as facts of the
+/// problem, of which each atom and the value of each term is stated once.
+pub fn read_initial_states_are_well_formed()
+    ensures { InitialStatesAreWellFormed }
 {}
