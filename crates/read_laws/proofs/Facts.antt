@@ -51,7 +51,7 @@ later x y [] (inr m) fresh = absurd m
 later x y (z ∷ ys) (inl is) fresh = absurd (fresh (inl is))
 later x y (z ∷ ys) (inr m) fresh = later x y ys m (λ k. fresh (inr k))
 
-differ_more : {X : Type 0} (xs : List X) (x : X) → Differ xs → (¬ Member x xs) → Differ (xs ++ x ∷ [])
+pub differ_more : {X : Type 0} (xs : List X) (x : X) → Differ xs → (¬ Member x xs) → Differ (xs ++ x ∷ [])
 differ_more [] x differ fresh = ((λ m. m), tt)
 differ_more (y ∷ ys) x differ fresh =
     ((λ m. fresh (inl (sym (later x y ys m differ.0)))), differ_more ys x differ.1 (λ m. fresh (inr m)))

@@ -12,3 +12,4 @@ pub mod Actions
 pub mod Plain
 pub mod Constraints
 pub mod Facts
+pub mod Declared

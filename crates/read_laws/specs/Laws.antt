@@ -10,6 +10,9 @@ use Rattle.pddl_parse.specs.declared.raw.RawFormula.{RawFormula}
 use Rattle.pddl_parse.specs.declared.raw.RawConstraint.{RawConstraint}
 use Rattle.pddl_parse.specs.declared.raw.RawMetric.{RawMetric}
 use Rattle.pddl_parse.specs.declared.raw.RawInit.{RawInit}
+use Rattle.pddl_parse.specs.declared.raw.RawGroup.{RawGroup}
+use Rattle.pddl_parse.specs.declared.raw.RawSymbol.{RawSymbol}
+use Rattle.pddl_parse.specs.declared.raw.RawFunctions.{RawFunctions}
 use Rattle.pddl_parse.specs.declared.raw.RawAction.{RawAction}
 use Rattle.up_phrase.specs.declared.term.Setting.{Setting}
 use Rattle.up_phrase.specs.Declarations.{Declarations}
@@ -17,13 +20,15 @@ use Rattle.up_phrase.specs.Scopes.{Variables}
 use Rattle.up_phrase.specs.Terms.{term}
 use Rattle.up_phrase.specs.Exprs.{expr}
 use Rattle.up_phrase.specs.Conditions.{formula}
+use Rattle.up_declare.specs.Declaring.{with_objects, with_predicates, with_functions}
 use Rattle.up_effect.specs.Actions.{action}
 use Rattle.up_check.specs.Constraints.{constraints}
 use Rattle.up_check.specs.Initial.{initial}
 use Rattle.up_check.specs.Metrics.{metric_of}
 use Rattle.read_laws.specs.Agreement.{IfFine, Agree, AgreeInScope, IsTermDue}
 use Rattle.read_laws.specs.Initial.{IsInitial, IsWrittenInit}
-use Rattle.read_laws.specs.Literal.{HasLiterals, IsWritten, IsWrittenAction, IsWrittenConstraint, IsWrittenMetric}
+use Rattle.read_laws.specs.Sound.{AreSound, AreNamed, AreNamedFunctions}
+use Rattle.read_laws.specs.Literal.{HasLiterals, HaveNames, IsWritten, IsWrittenAction, IsWrittenConstraint, IsWrittenMetric}
 
 abbrev pub TermsAreWellFormed : Type 0
 TermsAreWellFormed =
@@ -63,3 +68,13 @@ abbrev pub InitialStatesAreWellFormed : Type 0
 InitialStatesAreWellFormed =
     (names : Declarations) (p : Parts) → Agree names p p.objects
     → (members : List RawInit) → Every IsWrittenInit members → IfFine (initial names members) (IsInitial p)
+
+-- what is sound stays so where more is declared
+abbrev pub ObjectsKeepSound : Type 0
+ObjectsKeepSound = (names : Declarations) → AreSound names → (groups : List RawGroup) → HaveNames groups → IfFine (with_objects groups names) AreSound
+
+abbrev pub PredicatesKeepSound : Type 0
+PredicatesKeepSound = (names : Declarations) → AreSound names → (symbols : List RawSymbol) → AreNamed symbols → IfFine (with_predicates symbols names) AreSound
+
+abbrev pub FunctionsKeepSound : Type 0
+FunctionsKeepSound = (names : Declarations) → AreSound names → (groups : List RawFunctions) → AreNamedFunctions groups → IfFine (with_functions groups names) AreSound

@@ -1,4 +1,5 @@
 pub mod Agreement
 pub mod Literal
 pub mod Initial
+pub mod Sound
 pub mod Laws

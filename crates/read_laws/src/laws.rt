@@ -1,4 +1,4 @@
-ghost use Rattle.read_laws.specs.Laws.{ActionsAreWellFormed, ConditionsAreWellFormed, ConstraintsAreWellFormed, ExpressionsAreWellFormed, InitialStatesAreWellFormed, MetricsAreWellFormed, TermsAreWellFormed};
+ghost use Rattle.read_laws.specs.Laws.{ActionsAreWellFormed, ConditionsAreWellFormed, ConstraintsAreWellFormed, ExpressionsAreWellFormed, FunctionsKeepSound, InitialStatesAreWellFormed, MetricsAreWellFormed, ObjectsKeepSound, PredicatesKeepSound, TermsAreWellFormed};
 
 /// A law: a raw term that is read as an object term is one, of the type that is due.
 pub fn read_terms_are_well_formed()
@@ -37,4 +37,12 @@ pub fn read_metrics_are_well_formed()
 /// problem, of which each atom and the value of each term is stated once.
 pub fn read_initial_states_are_well_formed()
     ensures { InitialStatesAreWellFormed }
+{}
+
+/// A law: where objects, predicates or functions are declared behind others, their names differ still, and their types
+/// are declared.
+pub fn read_declarations_are_sound()
+    ensures objects { ObjectsKeepSound }
+    ensures predicates { PredicatesKeepSound }
+    ensures functions { FunctionsKeepSound }
 {}
