@@ -13,3 +13,4 @@ pub mod Plain
 pub mod Constraints
 pub mod Facts
 pub mod Declared
+pub mod SoundTypes

@@ -20,6 +20,7 @@ use Rattle.up_phrase.specs.Scopes.{Variables}
 use Rattle.up_phrase.specs.Terms.{term}
 use Rattle.up_phrase.specs.Exprs.{expr}
 use Rattle.up_phrase.specs.Conditions.{formula}
+use Rattle.up_declare.specs.Types.{types}
 use Rattle.up_declare.specs.Declaring.{with_objects, with_predicates, with_functions}
 use Rattle.up_effect.specs.Actions.{action}
 use Rattle.up_check.specs.Constraints.{constraints}
@@ -28,6 +29,7 @@ use Rattle.up_check.specs.Metrics.{metric_of}
 use Rattle.read_laws.specs.Agreement.{IfFine, Agree, AgreeInScope, IsTermDue}
 use Rattle.read_laws.specs.Initial.{IsInitial, IsWrittenInit}
 use Rattle.read_laws.specs.Sound.{AreSound, AreNamed, AreNamedFunctions}
+use Rattle.read_laws.specs.SoundTypes.{AreSoundTypes, HaveNamedTypes}
 use Rattle.read_laws.specs.Literal.{HasLiterals, HaveNames, IsWritten, IsWrittenAction, IsWrittenConstraint, IsWrittenMetric}
 
 abbrev pub TermsAreWellFormed : Type 0
@@ -78,3 +80,6 @@ PredicatesKeepSound = (names : Declarations) → AreSound names → (symbols : L
 
 abbrev pub FunctionsKeepSound : Type 0
 FunctionsKeepSound = (names : Declarations) → AreSound names → (groups : List RawFunctions) → AreNamedFunctions groups → IfFine (with_functions groups names) AreSound
+
+abbrev pub TypesAreSound : Type 0
+TypesAreSound = (groups : List RawGroup) → HaveNames groups → HaveNamedTypes groups → IfFine (types groups) AreSoundTypes

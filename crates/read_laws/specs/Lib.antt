@@ -2,4 +2,5 @@ pub mod Agreement
 pub mod Literal
 pub mod Initial
 pub mod Sound
+pub mod SoundTypes
 pub mod Laws

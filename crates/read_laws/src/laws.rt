@@ -1,4 +1,4 @@
-ghost use Rattle.read_laws.specs.Laws.{ActionsAreWellFormed, ConditionsAreWellFormed, ConstraintsAreWellFormed, ExpressionsAreWellFormed, FunctionsKeepSound, InitialStatesAreWellFormed, MetricsAreWellFormed, ObjectsKeepSound, PredicatesKeepSound, TermsAreWellFormed};
+ghost use Rattle.read_laws.specs.Laws.{ActionsAreWellFormed, ConditionsAreWellFormed, ConstraintsAreWellFormed, ExpressionsAreWellFormed, FunctionsKeepSound, InitialStatesAreWellFormed, MetricsAreWellFormed, ObjectsKeepSound, PredicatesKeepSound, TermsAreWellFormed, TypesAreSound};
 
 /// A law: a raw term that is read as an object term is one, of the type that is due.
 pub fn read_terms_are_well_formed()
@@ -45,4 +45,9 @@ pub fn read_declarations_are_sound()
     ensures objects { ObjectsKeepSound }
     ensures predicates { PredicatesKeepSound }
     ensures functions { FunctionsKeepSound }
+{}
+
+/// A law: the names of the types that are read differ, none is `object`, and all have it above them.
+pub fn read_types_are_sound()
+    ensures { TypesAreSound }
 {}
