@@ -14,3 +14,4 @@ pub mod Constraints
 pub mod Facts
 pub mod Declared
 pub mod SoundTypes
+pub mod Agreeing

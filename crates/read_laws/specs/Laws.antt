@@ -1,5 +1,5 @@
 -- What is read is well formed, phrase by phrase.
-use Rattle.std.specs.Prelude.{List, [], Option, take}
+use Rattle.std.specs.Prelude.{List, [], Option, map, take}
 use Rattle.up_text.specs.Lists.{Every}
 use Rattle.up_text.specs.declared.name.Name.{Name}
 use Rattle.up_tree.specs.declared.term.Typed.{Typed}
@@ -16,7 +16,7 @@ use Rattle.pddl_parse.specs.declared.raw.RawFunctions.{RawFunctions}
 use Rattle.pddl_parse.specs.declared.raw.RawAction.{RawAction}
 use Rattle.up_phrase.specs.declared.term.Setting.{Setting}
 use Rattle.up_phrase.specs.Declarations.{Declarations}
-use Rattle.up_phrase.specs.Scopes.{Variables}
+use Rattle.up_phrase.specs.Scopes.{Variables, typed}
 use Rattle.up_phrase.specs.Terms.{term}
 use Rattle.up_phrase.specs.Exprs.{expr}
 use Rattle.up_phrase.specs.Conditions.{formula}
@@ -28,7 +28,7 @@ use Rattle.up_check.specs.Initial.{initial}
 use Rattle.up_check.specs.Metrics.{metric_of}
 use Rattle.read_laws.specs.Agreement.{IfFine, Agree, AgreeInScope, IsTermDue}
 use Rattle.read_laws.specs.Initial.{IsInitial, IsWrittenInit}
-use Rattle.read_laws.specs.Sound.{AreSound, AreNamed, AreNamedFunctions}
+use Rattle.read_laws.specs.Sound.{AreSound, AreNamed, AreNamedFunctions, HasDeclared}
 use Rattle.read_laws.specs.SoundTypes.{AreSoundTypes, HaveNamedTypes}
 use Rattle.read_laws.specs.Literal.{HasLiterals, HaveNames, IsWritten, IsWrittenAction, IsWrittenConstraint, IsWrittenMetric}
 
@@ -83,3 +83,9 @@ FunctionsKeepSound = (names : Declarations) → AreSound names → (groups : Lis
 
 abbrev pub TypesAreSound : Type 0
 TypesAreSound = (groups : List RawGroup) → HaveNames groups → HaveNamedTypes groups → IfFine (types groups) AreSoundTypes
+
+-- declarations with which a phrase is read agree with a problem that has them
+abbrev pub SoundAgree : Type 0
+SoundAgree =
+    (names : Declarations) → AreSoundTypes names.types → AreSound names
+    → (p : Parts) (more : List (Name × Name)) → HasDeclared p names more → Agree names p (map typed names.objects)

@@ -1,5 +1,5 @@
 -- Declarations in which names differ and types are declared.
-use Rattle.std.specs.Prelude.{⊤, List, map, ◌++◌, IsTrue}
+use Rattle.std.specs.Prelude.{◌≡◌, ⊤, List, map, ◌++◌, IsTrue}
 use Rattle.up_text.specs.declared.name.Name.{Name}
 use Rattle.up_text.specs.Names.{IsName}
 use Rattle.up_text.specs.Lists.{Every}
@@ -8,6 +8,9 @@ use Rattle.pddl_parse.specs.declared.raw.RawSymbol.{RawSymbol}
 use Rattle.up_tree.specs.declared.problem.Gives.{Gives}
 use Rattle.up_tree.specs.declared.problem.Gives.TheVariants as gives
 use Rattle.up_tree.specs.WellFormed.{AreDeclared}
+use Rattle.up_tree.specs.declared.problem.Parts.{Parts}
+use Rattle.up_phrase.specs.Scopes.{typed}
+use Rattle.up_check.specs.Lists.{predicate, function}
 use Rattle.up_phrase.specs.Declarations.{Declarations}
 use Rattle.up_phrase.specs.Lookups.{is_type}
 
@@ -31,3 +34,10 @@ AreNamed symbols = Every (λ (symbol : RawSymbol). IsName symbol.name.name) symb
 
 abbrev pub AreNamedFunctions : List RawFunctions → Type 0
 AreNamedFunctions groups = Every (λ (group : RawFunctions). AreNamed group.functions) groups
+
+-- the problem has these declarations, and more objects behind those of them
+pub record HasDeclared (p : Parts) (names : Declarations) (more : List (Name × Name)) : Type 0 where
+  pub types : p.types ≡ map typed names.types
+  pub objects : p.objects ≡ map typed (names.objects ++ more)
+  pub predicates : p.predicates ≡ map predicate names.predicates
+  pub functions : p.functions ≡ map function names.functions

@@ -1,4 +1,4 @@
-ghost use Rattle.read_laws.specs.Laws.{ActionsAreWellFormed, ConditionsAreWellFormed, ConstraintsAreWellFormed, ExpressionsAreWellFormed, FunctionsKeepSound, InitialStatesAreWellFormed, MetricsAreWellFormed, ObjectsKeepSound, PredicatesKeepSound, TermsAreWellFormed, TypesAreSound};
+ghost use Rattle.read_laws.specs.Laws.{ActionsAreWellFormed, ConditionsAreWellFormed, ConstraintsAreWellFormed, ExpressionsAreWellFormed, FunctionsKeepSound, InitialStatesAreWellFormed, MetricsAreWellFormed, ObjectsKeepSound, PredicatesKeepSound, SoundAgree, TermsAreWellFormed, TypesAreSound};
 
 /// A law: a raw term that is read as an object term is one, of the type that is due.
 pub fn read_terms_are_well_formed()
@@ -50,4 +50,9 @@ pub fn read_declarations_are_sound()
 /// A law: the names of the types that are read differ, none is `object`, and all have it above them.
 pub fn read_types_are_sound()
     ensures { TypesAreSound }
+{}
+
+/// A law: sound declarations agree with the parts of a problem that has them, where its further objects stand behind.
+pub fn sound_declarations_agree()
+    ensures { SoundAgree }
 {}
