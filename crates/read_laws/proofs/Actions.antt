@@ -1,14 +1,10 @@
 -- What is read as an action is one.
-use Rattle.std.proofs.Common.{◌≡◌, true≢false, List, [], ◌∷◌, ◌++◌, map, take, length, Option, Some, None, refl, ap, sym, ◌∙◌, subst}
+use Rattle.std.proofs.Common.{true≢false, [], map, take, refl, ap, sym, subst}
 use Rattle.std.specs.Prelude.{is_some}
 use Rattle.std.proofs.lemmas.List.{append-nil}
-use Rattle.up_text.specs.declared.name.Name.{Name}
 use Rattle.up_text.specs.Lists.{Every}
 use Rattle.pddl_parse.specs.declared.raw.RawAction.{RawAction}
-use Rattle.up_tree.specs.declared.action.Row.{Row}
-use Rattle.up_tree.specs.declared.formula.Formula.{Formula}
 use Rattle.up_tree.specs.declared.problem.Parts.{Parts}
-use Rattle.up_tree.specs.declared.term.Typed.{Typed}
 use Rattle.up_tree.specs.WellFormed.{AreVariables, IsAction, IsFormula, IsRow, IsType}
 use Rattle.up_phrase.specs.declared.term.Setting.TheVariants.{Plain}
 use Rattle.up_phrase.specs.Conditions.{formula}
@@ -24,7 +20,7 @@ use Rattle.read_laws.proofs.Tables.{type_found}
 use Rattle.read_laws.proofs.Members.{found_is}
 use Rattle.read_laws.proofs.Entering.{OfMany, groups_are, are_variables}
 use Rattle.read_laws.proofs.Conditions.{formula_is}
-use Rattle.read_laws.proofs.Rows.{Surrounds, rows_are}
+use Rattle.read_laws.proofs.Rows.{rows_are}
 
 -- nothing is in scope
 pub agree_empty : (p : Parts) → AgreeInScope p [] []

@@ -1,6 +1,6 @@
 -- Sound declarations agree with a problem that has them.
 use Rattle.std.proofs.Common.{◌≡◌, ℕ, zero, suc, Bool, true, false, true≢false, ◌||◌, List, [], ◌∷◌, ◌++◌, map, length, Option, Some, None, option_map, refl, ap, sym, ◌∙◌, subst, inl, inr}
-use Rattle.std.specs.Prelude.{⊤, is_some, IsSome}
+use Rattle.std.specs.Prelude.{is_some, IsSome}
 use Rattle.std.specs.Map.{lookup}
 use Rattle.std.specs.Option.{option_or}
 use Rattle.std.specs.Cmp.Lexicographic.{bytes_decides}
@@ -16,7 +16,7 @@ use Rattle.up_tree.specs.Objects.{named, type_in, chain}
 use Rattle.up_tree.specs.WellFormed.{IsBelow, IsType, OfGives, top_type}
 use Rattle.up_phrase.specs.declared.names.Signature.{Signature}
 use Rattle.up_phrase.specs.Declarations.{Declarations}
-use Rattle.up_phrase.specs.Lookups.{is_type, parent_of, type_of, function_of}
+use Rattle.up_phrase.specs.Lookups.{is_type, parent_of}
 use Rattle.up_phrase.specs.Named.{is_object, object}
 use Rattle.up_phrase.specs.Scopes.{typed}
 use Rattle.read_laws.specs.Agreement.{Agree}

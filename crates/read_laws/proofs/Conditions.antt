@@ -1,10 +1,9 @@
 -- What is read as a condition is one.
-use Rattle.std.proofs.Common.{◌≡◌, Bool, true, false, if◌then◌else◌, List, [], ◌∷◌, ◌++◌, map, Option, Some, None, IsSomeAnd, refl, ap, sym, ◌∙◌, subst}
-use Rattle.std.specs.Prelude.{⊤}
+use Rattle.std.proofs.Common.{◌≡◌, Bool, true, false, if◌then◌else◌, List, [], ◌∷◌, ◌++◌, map, Option, Some, None, refl, ap, sym, ◌∙◌, subst}
 use Rattle.up_text.specs.declared.name.Name.{Name}
 use Rattle.up_text.specs.declared.place.Place.{Place}
 use Rattle.up_text.specs.Lists.{Every}
-use Rattle.pddl_lex.specs.Verdicts.{fine, faulty, all, over, over_two}
+use Rattle.pddl_lex.specs.Verdicts.{all, over}
 use Rattle.pddl_parse.specs.declared.raw.Ident.{Ident}
 use Rattle.pddl_parse.specs.declared.raw.Relation as raw_relation
 use Rattle.pddl_parse.specs.declared.raw.RawTerm.{RawTerm}

@@ -1,9 +1,7 @@
 -- What is read as constraints and as a metric are constraints and a metric.
-use Rattle.std.proofs.Common.{◌≡◌, List, [], ◌∷◌, ◌++◌, map, Option, Some, None, refl, ap, sym, ◌∙◌, subst}
-use Rattle.std.specs.Prelude.{⊤}
-use Rattle.up_text.specs.declared.name.Name.{Name}
+use Rattle.std.proofs.Common.{◌≡◌, List, [], ◌∷◌, ◌++◌, map, Option, Some, None, refl, sym, subst}
 use Rattle.up_text.specs.Lists.{Every}
-use Rattle.pddl_lex.specs.Verdicts.{Verdict, fine, faulty, over, over_two}
+use Rattle.pddl_lex.specs.Verdicts.{Verdict, fine, faulty}
 use Rattle.pddl_parse.specs.declared.raw.RawConstraint.{RawConstraint, Row_of-RawConstraint, end_of-RawConstraint, more_of-RawConstraint}
 use Rattle.pddl_parse.specs.declared.raw.RawConstraint as form
 use Rattle.pddl_parse.specs.declared.raw.RawFormula.{RawFormula}
@@ -15,7 +13,6 @@ use Rattle.up_tree.specs.declared.problem.Metric.{Metric}
 use Rattle.up_tree.specs.declared.problem.Parts.{Parts}
 use Rattle.up_tree.specs.declared.problem.Rule.{Rule}
 use Rattle.up_tree.specs.declared.problem.Rule.TheVariants as rule
-use Rattle.up_tree.specs.declared.term.Typed.{Typed}
 use Rattle.up_tree.specs.WellFormed.{AreVariables, IsConstraint, IsExpr, IsFormula, IsPlain, IsPlainExpr, IsType, OnMetric, formulas_of}
 use Rattle.up_phrase.specs.declared.term.Setting.TheVariants as setting
 use Rattle.up_phrase.specs.Conditions.{formula}
@@ -26,7 +23,7 @@ use Rattle.up_phrase.specs.Walks.{Checked}
 use Rattle.up_check.specs.Constraints.{for_each, ruled, pair, two, ruled_two, joined, constraints, each}
 use Rattle.up_check.specs.Metrics.{metric, metric_of}
 use Rattle.up_check.specs.Nodes.{forall}
-use Rattle.read_laws.specs.Agreement.{IfFine, Agree, AgreeInScope}
+use Rattle.read_laws.specs.Agreement.{IfFine, Agree}
 use Rattle.read_laws.specs.Literal.{IsWritten, IsWrittenConstraint, AreWrittenConstraints, IsWrittenMetric}
 use Rattle.read_laws.specs.Laws.{ConstraintsAreWellFormed, MetricsAreWellFormed}
 use Rattle.read_laws.proofs.Verdicts.{fine_over, fine_two, fine_after}

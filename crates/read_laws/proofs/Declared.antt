@@ -1,5 +1,5 @@
 -- Declarations stay sound where more is declared.
-use Rattle.std.proofs.Common.{◌≡◌, ◌⊎◌, Bool, true, false, true≢false, not, ◌||◌, List, [], ◌∷◌, ◌++◌, map, Option, Some, None, append_assoc, refl, ap, sym, ◌∙◌, subst, inl, inr}
+use Rattle.std.proofs.Common.{◌≡◌, ◌⊎◌, Bool, true, false, true≢false, not, ◌||◌, List, [], ◌∷◌, ◌++◌, Option, Some, None, append_assoc, refl, ap, sym, ◌∙◌, subst, inl, inr}
 use Rattle.std.specs.Prelude.{⊤, is_some}
 use Rattle.std.specs.Map.{lookup}
 use Rattle.std.specs.Cmp.Lexicographic.{bytes_decides}
@@ -23,11 +23,10 @@ use Rattle.up_phrase.specs.Declarations.{Declarations}
 use Rattle.up_phrase.specs.Lookups.{is_type, type_of, predicate_of, function_of}
 use Rattle.up_phrase.specs.Named.{at, object, is_object}
 use Rattle.up_phrase.specs.Scopes.{type_named, type_fault}
-use Rattle.up_phrase.specs.Walks.{Checked, after, unless, in_turn}
-use Rattle.up_declare.specs.Declaring.{and_object, and_predicate, and_function, declared_as, with_object, with_group, with_objects, is_symbol, each_of, arg_types, new_symbol, with_predicate, with_predicates, given, gives_fault, signature, with_function, with_function_group, with_functions}
+use Rattle.up_phrase.specs.Walks.{Checked, unless, in_turn}
+use Rattle.up_declare.specs.Declaring.{and_predicate, and_function, declared_as, with_object, with_group, with_objects, is_symbol, each_of, arg_types, new_symbol, with_predicate, with_predicates, given, gives_fault, signature, with_function, with_function_group, with_functions}
 use Rattle.read_laws.specs.Agreement.{IfFine}
-use Rattle.read_laws.specs.Literal.{HaveNames}
-use Rattle.read_laws.specs.Sound.{GivesType, AreSound, AreNamed, AreNamedFunctions}
+use Rattle.read_laws.specs.Sound.{GivesType, AreSound, AreNamed}
 use Rattle.read_laws.specs.Laws.{ObjectsKeepSound, PredicatesKeepSound, FunctionsKeepSound}
 use Rattle.read_laws.proofs.Verdicts.{fine_as, fine_over, fine_after, fine_behind, holds}
 use Rattle.read_laws.proofs.Members.{every_as, every_append, names_in, there}

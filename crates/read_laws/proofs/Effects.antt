@@ -1,16 +1,15 @@
 -- What is read as a simple effect is one.
-use Rattle.std.proofs.Common.{◌≡◌, List, [], ◌∷◌, map, Option, Some, None, IsSomeAnd, refl, ap, sym, ◌∙◌, subst}
+use Rattle.std.proofs.Common.{◌≡◌, List, [], map, Option, Some, None, IsSomeAnd, refl, ap, sym, subst}
 use Rattle.std.specs.Prelude.{⊤}
 use Rattle.up_text.specs.declared.name.Name.{Name}
 use Rattle.up_text.specs.declared.place.Place.{Place}
-use Rattle.pddl_lex.specs.Verdicts.{fine, faulty, over, over_two, followed}
+use Rattle.pddl_lex.specs.Verdicts.{fine, followed}
 use Rattle.pddl_parse.specs.declared.raw.RawCall.{RawCall}
 use Rattle.pddl_parse.specs.declared.raw.RawChange.{RawChange}
 use Rattle.pddl_parse.specs.declared.raw.RawChange.TheVariants as raw_change
 use Rattle.pddl_parse.specs.declared.raw.RawTerm.{RawTerm}
 use Rattle.up_tree.specs.declared.action.Change.{Change}
 use Rattle.up_tree.specs.declared.action.Change.TheVariants as change
-use Rattle.up_tree.specs.declared.action.Effect.{Effect}
 use Rattle.up_tree.specs.declared.action.Effect.TheVariants as effect
 use Rattle.up_tree.specs.declared.problem.Gives.{Gives}
 use Rattle.up_tree.specs.declared.problem.Gives.TheVariants as gives
@@ -18,7 +17,7 @@ use Rattle.up_tree.specs.declared.problem.Parts.{Parts}
 use Rattle.up_tree.specs.declared.term.Term.{Term}
 use Rattle.up_tree.specs.declared.term.Typed.{Typed}
 use Rattle.up_tree.specs.Objects.{function_named}
-use Rattle.up_tree.specs.WellFormed.{IsAtom, IsEffect, IsExpr, IsNumberTerm, IsObjectTarget, TermFits, TermsFit, GivesNumber, gives_object}
+use Rattle.up_tree.specs.WellFormed.{IsAtom, IsEffect, IsExpr, IsObjectTarget, TermFits, TermsFit, GivesNumber, gives_object}
 use Rattle.up_phrase.specs.declared.names.Signature.{Signature}
 use Rattle.up_phrase.specs.declared.term.Setting.TheVariants.{Plain}
 use Rattle.up_phrase.specs.Declarations.{Declarations}
@@ -27,7 +26,7 @@ use Rattle.up_phrase.specs.Lookups.{function_of}
 use Rattle.up_phrase.specs.Scopes.{Variables}
 use Rattle.up_phrase.specs.Terms.{term}
 use Rattle.up_phrase.specs.Walks.{Checked}
-use Rattle.up_effect.specs.Effects.{atom, added, deleted, target_args, number_changed, object_assigned, assigned_by, assigned, number_changed_in, changed, kept_number, undefined}
+use Rattle.up_effect.specs.Effects.{atom, added, deleted, target_args, number_changed, assigned_by, assigned, number_changed_in, changed, kept_number, undefined}
 use Rattle.up_check.specs.Lists.{function}
 use Rattle.read_laws.specs.Agreement.{IfFine, Agree, AgreeInScope}
 use Rattle.read_laws.specs.Literal.{HasLiterals}

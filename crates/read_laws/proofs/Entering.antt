@@ -1,5 +1,5 @@
 -- Variables that are brought into scope are variables there.
-use Rattle.std.proofs.Common.{◌≡◌, Bool, true, false, true≢false, ◌||◌, if◌then◌else◌, List, [], ◌∷◌, ◌++◌, map, drop, length, Option, Some, None, append_assoc, refl, ap, sym, ◌∙◌, subst, inl, inr}
+use Rattle.std.proofs.Common.{◌≡◌, Bool, true, false, true≢false, ◌||◌, if◌then◌else◌, List, [], ◌∷◌, ◌++◌, map, Option, Some, None, append_assoc, refl, ap, sym, ◌∙◌, subst, inl, inr}
 use Rattle.std.specs.Prelude.{⊤, is_some}
 use Rattle.std.specs.List.{list_any}
 use Rattle.std.specs.Map.{lookup}
@@ -9,21 +9,18 @@ use Rattle.std.proofs.Math.Seq.{drop-append_seam}
 use Rattle.up_text.specs.declared.name.Name.{Name}
 use Rattle.up_text.specs.Names.{IsName, same_name}
 use Rattle.up_text.specs.Lists.{Every, Member, Differ}
-use Rattle.pddl_lex.specs.Verdicts.{fine, faulty, behind}
+use Rattle.pddl_lex.specs.Verdicts.{faulty, behind}
 use Rattle.pddl_parse.specs.declared.raw.Ident.{Ident}
 use Rattle.pddl_parse.specs.declared.raw.RawGroup.{RawGroup}
 use Rattle.up_tree.specs.declared.term.Typed.{Typed}
 use Rattle.up_tree.specs.declared.problem.Parts.{Parts}
-use Rattle.up_tree.specs.Objects.{type_in}
 use Rattle.up_tree.specs.WellFormed.{IsType, AreVariables}
-use Rattle.up_phrase.specs.declared.fault.Fault.{Fault}
 use Rattle.up_phrase.specs.declared.reason.Reason.TheVariants.{Duplicate, UnknownName}
 use Rattle.up_phrase.specs.Declarations.{Declarations}
 use Rattle.up_phrase.specs.Lookups.{is_type}
 use Rattle.up_phrase.specs.Named.{at}
 use Rattle.up_phrase.specs.Scopes.{Variables, variable_type, is_taken, entered, entered_groups, type_named, type_fault, typed}
 use Rattle.up_phrase.specs.Conditions.{bound}
-use Rattle.up_phrase.specs.Walks.{Checked, unless, after}
 use Rattle.read_laws.specs.Agreement.{IfFine, Agree, AgreeInScope}
 use Rattle.read_laws.specs.Literal.{HaveNames}
 use Rattle.read_laws.proofs.Verdicts.{fine_as, fine_after, fine_behind, holds}

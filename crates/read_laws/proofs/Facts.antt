@@ -1,20 +1,17 @@
 -- What is read as an initial state is one.
-use Rattle.std.proofs.Common.{◌≡◌, Bool, true, false, true≢false, ◌&&◌, ◌||◌, if◌then◌else◌, cond, List, [], ◌∷◌, ◌++◌, map, drop, length, get_or, Option, Some, None, IsSomeAnd, refl, ap, sym, ◌∙◌, subst, inl, inr, pred}
-use Rattle.std.specs.Prelude.{⊤, is_some, ◌==◌}
-use Rattle.std.specs.Cmp.Lexicographic.{pointwise, pointwise_decides, bytes_decides}
+use Rattle.std.proofs.Common.{◌≡◌, Bool, true, false, true≢false, ◌||◌, if◌then◌else◌, List, [], ◌∷◌, ◌++◌, map, drop, length, get_or, Option, Some, None, IsSomeAnd, refl, ap, sym, ◌∙◌, subst, inl, inr, pred}
+use Rattle.std.specs.Prelude.{is_some, ◌==◌}
+use Rattle.std.specs.Cmp.Lexicographic.{pointwise_decides, bytes_decides}
 use Rattle.std.specs.List.{list_any}
 use Rattle.std.proofs.lemmas.List.{map-append}
 use Rattle.up_frac.specs.declared.frac.Frac.{Frac}
 use Rattle.up_text.specs.declared.name.Name.{Name}
 use Rattle.up_text.specs.declared.place.Place.{Place}
-use Rattle.up_text.specs.Names.{same_name}
 use Rattle.up_text.specs.Lists.{Every, Member, Differ}
-use Rattle.pddl_lex.specs.Verdicts.{fine, behind}
 use Rattle.pddl_parse.specs.declared.raw.Ident.{Ident}
 use Rattle.pddl_parse.specs.declared.raw.RawGround.{RawGround}
 use Rattle.pddl_parse.specs.declared.raw.RawInit.{RawInit}
 use Rattle.pddl_parse.specs.declared.raw.RawInit.TheVariants as member
-use Rattle.pddl_parse.specs.declared.raw.RawValue.{RawValue}
 use Rattle.pddl_parse.specs.declared.raw.RawValue.TheVariants as value
 use Rattle.up_tree.specs.declared.problem.Fact.{Fact}
 use Rattle.up_tree.specs.declared.problem.Function.{Function}
@@ -25,7 +22,6 @@ use Rattle.up_tree.specs.declared.problem.Parts.{Parts}
 use Rattle.up_tree.specs.declared.problem.ValueFact.{ValueFact}
 use Rattle.up_tree.specs.Objects.{type_in, predicate_named, function_named}
 use Rattle.up_tree.specs.WellFormed.{GivesNumber, IsBelow, IsFact, IsLiteral, IsNumberFact, IsValueFact, ObjectsFit, gives_object}
-use Rattle.up_phrase.specs.declared.fault.Fault.{Fault}
 use Rattle.up_phrase.specs.declared.names.Signature.{Signature}
 use Rattle.up_phrase.specs.declared.reason.Reason.TheVariants.{Arity, TypeMismatch}
 use Rattle.up_phrase.specs.Declarations.{Declarations}
@@ -36,7 +32,7 @@ use Rattle.up_check.specs.declared.lists.Initial.{Initial}
 use Rattle.up_check.specs.Initial.{object_faults, argument_faults, bracket_faults, atom_faults, arguments, is_at, number_at, object_at, value_faults, term_faults, member_faults, with_atom, with_number, with_object, with_member, stated, initial}
 use Rattle.up_check.specs.Lists as lists
 use Rattle.read_laws.specs.Agreement.{IfFine, Agree}
-use Rattle.read_laws.specs.Initial.{IsInitial, IsWrittenInit, IsWrittenValue}
+use Rattle.read_laws.specs.Initial.{IsInitial, IsWrittenInit}
 use Rattle.read_laws.specs.Laws.{InitialStatesAreWellFormed}
 use Rattle.read_laws.proofs.Verdicts.{fine_behind, holds, none_before, none_behind}
 use Rattle.read_laws.proofs.Tables.{at_some, function_is, predicate_is, under_is}

@@ -1,13 +1,13 @@
 -- Members of lists, and names that stand in tables.
-use Rattle.std.proofs.Common.{◌≡◌, ◌⊎◌, Bool, true, false, true≢false, cond, ◌||◌, List, [], ◌∷◌, ◌++◌, map, Option, Some, None, option_map, refl, ap, sym, ◌∙◌, subst, inl, inr}
-use Rattle.std.specs.Prelude.{is_some, find, IsSome, unwrap_or}
+use Rattle.std.proofs.Common.{◌≡◌, Bool, true, false, true≢false, cond, ◌||◌, List, [], ◌∷◌, ◌++◌, map, Some, option_map, refl, ap, sym, subst, inl, inr}
+use Rattle.std.specs.Prelude.{is_some, unwrap_or}
 use Rattle.std.specs.List.{list_any}
 use Rattle.std.specs.Map.{lookup}
 use Rattle.std.specs.Option.{option_or}
 use Rattle.std.specs.Cmp.Lexicographic.{bytes_decides}
 use Rattle.up_text.specs.declared.name.Name.{Name}
 use Rattle.up_text.specs.Names.{same_name}
-use Rattle.up_text.specs.Lists.{Every, Member, Differ}
+use Rattle.up_text.specs.Lists.{Every, Member}
 use Rattle.up_tree.specs.declared.term.Typed.{Typed}
 use Rattle.up_tree.specs.Objects.{named, type_in}
 use Rattle.up_phrase.specs.Scopes.{typed}

@@ -1,11 +1,11 @@
 -- What is read in a constraint or in a metric has no object function's value.
-use Rattle.std.proofs.Common.{◌≡◌, ℕ, zero, suc, ◌-◌, ◌/◌, Bool, true, false, if◌then◌else◌, List, [], ◌∷◌, ◌++◌, map, length, take, drop, Option, Some, None, refl, ap, sym, ◌∙◌, subst, pos}
+use Rattle.std.proofs.Common.{ℕ, zero, suc, ◌-◌, ◌/◌, Bool, true, false, if◌then◌else◌, List, [], ◌∷◌, map, length, take, drop, Option, Some, None, sym, subst}
 use Rattle.std.specs.Prelude.{⊤, IfSome, ◌==◌}
 use Rattle.std.specs.Option.{option_map_or}
 use Rattle.up_text.specs.declared.name.Name.{Name}
 use Rattle.up_text.specs.declared.place.Place.{Place}
 use Rattle.up_text.specs.Lists.{Every}
-use Rattle.pddl_lex.specs.Verdicts.{fine, faulty, all, over, over_two, behind}
+use Rattle.pddl_lex.specs.Verdicts.{fine, faulty, all, over}
 use Rattle.pddl_parse.specs.declared.raw.Ident.{Ident}
 use Rattle.pddl_parse.specs.declared.raw.Operator.{Operator}
 use Rattle.pddl_parse.specs.declared.raw.Operator.TheVariants as operator
@@ -15,7 +15,7 @@ use Rattle.pddl_parse.specs.declared.raw.RawTerm.{RawTerm, Row_of-RawTerm, end_o
 use Rattle.pddl_parse.specs.declared.raw.RawTerm as operand
 use Rattle.pddl_parse.specs.declared.raw.RawFormula.{RawFormula, Row_of-RawFormula, end_of-RawFormula, more_of-RawFormula}
 use Rattle.pddl_parse.specs.declared.raw.RawFormula as form
-use Rattle.up_tree.specs.declared.expr.Expr.{Expr, Number, Fluent, Sum, Difference, Product, Quotient}
+use Rattle.up_tree.specs.declared.expr.Expr.{Expr, Fluent}
 use Rattle.up_tree.specs.declared.formula.Formula.{Formula, And, Or, Not, Imply, Exists, Forall, Atom, Equal, Row_of-Formula, end_of-Formula, more_of-Formula, items-the_row-Formula, items_hidden-the_row-Formula-0}
 use Rattle.up_tree.specs.declared.formula.Formula.TheBlock.{hidden-the_row-Formula-0}
 use Rattle.up_tree.specs.declared.problem.Gives.{Gives}
@@ -37,9 +37,9 @@ use Rattle.up_phrase.specs.Named.{at, bare}
 use Rattle.up_phrase.specs.Nodes.{not, imply, exists, forall}
 use Rattle.up_phrase.specs.Scopes.{Variables, variable_type, entered_groups}
 use Rattle.up_phrase.specs.Terms.{of_type, object_giver, object_function, each_due, arguments, applied, term, terms}
-use Rattle.up_phrase.specs.Walks.{Checked, unless, after}
+use Rattle.up_phrase.specs.Walks.{Checked, unless}
 use Rattle.read_laws.specs.Agreement.{IfFine}
-use Rattle.read_laws.proofs.Verdicts.{fine_as, fine_over, fine_two, fine_after, fine_behind, fine_all}
+use Rattle.read_laws.proofs.Verdicts.{fine_over, fine_two, fine_after, fine_behind, fine_all}
 use Rattle.read_laws.proofs.Exprs.{every_take, every_drop}
 
 -- a setting that admits no object function

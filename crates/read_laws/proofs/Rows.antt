@@ -1,25 +1,21 @@
 -- The rows that an effect is read as are rows of its action.
-use Rattle.std.proofs.Common.{◌≡◌, ◌⊎◌, ℕ, Bool, true, false, true≢false, if◌then◌else◌, List, [], ◌∷◌, ◌++◌, map, drop, length, fold, Option, Some, None, append_assoc, refl, ap, sym, ◌∙◌, subst, inl, inr}
-use Rattle.std.specs.Prelude.{⊤, is_some}
+use Rattle.std.proofs.Common.{◌≡◌, ◌⊎◌, Bool, true, false, if◌then◌else◌, List, [], ◌∷◌, ◌++◌, map, drop, length, append_assoc, refl, ap, sym, ◌∙◌, subst, inl, inr}
+use Rattle.std.specs.Prelude.{is_some}
 use Rattle.std.specs.List.{list_any}
 use Rattle.std.specs.Map.{lookup}
 use Rattle.std.specs.Option.{option_or}
 use Rattle.std.proofs.Math.Seq.{drop-append_seam}
-use Rattle.indexmap.specs.IndexSet.{insert_key, insert_all}
+use Rattle.indexmap.specs.IndexSet.{insert_key}
 use Rattle.up_text.specs.declared.name.Name.{Name}
 use Rattle.up_text.specs.Names.{same_name}
 use Rattle.up_text.specs.Lists.{Every, Member}
-use Rattle.pddl_lex.specs.Verdicts.{fine, faulty, over, over_two}
 use Rattle.pddl_parse.specs.declared.raw.RawEffect.{RawEffect, Row_of-RawEffect, end_of-RawEffect, more_of-RawEffect}
 use Rattle.pddl_parse.specs.declared.raw.RawEffect as form
-use Rattle.pddl_parse.specs.declared.raw.RawFormula.{RawFormula}
-use Rattle.pddl_parse.specs.declared.raw.RawGroup.{RawGroup}
 use Rattle.up_tree.specs.declared.action.Effect.{Effect}
 use Rattle.up_tree.specs.declared.action.Row.{Row}
 use Rattle.up_tree.specs.declared.formula.Formula.{Formula, And}
 use Rattle.up_tree.specs.declared.problem.Parts.{Parts}
 use Rattle.up_tree.specs.declared.term.Typed.{Typed}
-use Rattle.up_tree.specs.Objects.{type_in}
 use Rattle.up_tree.specs.Simplify.{is_always, alone_or}
 use Rattle.up_tree.specs.WellFormed.{IsEffect, IsFormula, IsRow, IsType}
 use Rattle.up_phrase.specs.declared.term.Setting.TheVariants.{Plain}
@@ -27,14 +23,14 @@ use Rattle.up_phrase.specs.Barred.{binds, each_once}
 use Rattle.up_phrase.specs.Conditions.{formula}
 use Rattle.up_phrase.specs.Declarations.{Declarations}
 use Rattle.up_phrase.specs.Lookups.{function_of}
-use Rattle.up_phrase.specs.Scopes.{Variables, variable_type, entered_groups, typed}
+use Rattle.up_phrase.specs.Scopes.{Variables, entered_groups, typed}
 use Rattle.up_phrase.specs.Walks.{Checked}
-use Rattle.up_effect.specs.Effects.{Around, with_variables, whens_and, under, row, added, deleted, changed, undefined, simple, together, quantified, conditional, rows, each_rows}
+use Rattle.up_effect.specs.Effects.{Around, with_variables, under, row, added, deleted, changed, undefined, simple, together, rows, each_rows}
 use Rattle.up_effect.specs.Nodes.{for_all, when}
 use Rattle.read_laws.specs.Agreement.{IfFine, Agree, AgreeInScope}
-use Rattle.read_laws.specs.Literal.{HaveNames, IsWritten, IsWrittenEffect, AreWrittenEffects}
+use Rattle.read_laws.specs.Literal.{IsWrittenEffect, AreWrittenEffects}
 use Rattle.read_laws.proofs.Verdicts.{fine_over, fine_two, fine_after}
-use Rattle.read_laws.proofs.Members.{every_as, every_append, listed, any_member, member_front, member_back, names_in, there, lookup_append, has_type, named_there}
+use Rattle.read_laws.proofs.Members.{every_as, every_append, any_member, member_front, member_back, names_in, there, lookup_append, named_there}
 use Rattle.read_laws.proofs.Entering.{AreAdded, OfMany, added_both, added_free, groups_are, in_vars, are_variables, agree_inside}
 use Rattle.read_laws.proofs.Conditions.{and_is, formula_is}
 use Rattle.read_laws.proofs.Widening.{IsFresh, Wider, binds_fresh, formula_stays}

@@ -1,24 +1,22 @@
 -- The types that are read reach `object`.
-use Rattle.std.proofs.Common.{◌≡◌, ◌⊎◌, ℕ, zero, suc, ◌+◌, ◌≤◌, ◌<◌, Bool, true, false, true≢false, ◌||◌, if◌then◌else◌, List, [], ◌∷◌, ◌++◌, map, length, Option, Some, None, option_map, append_assoc, refl, ap, sym, ◌∙◌, subst, inl, inr, arith}
-use Rattle.std.specs.Prelude.{⊤, is_some, unwrap_or}
+use Rattle.std.proofs.Common.{◌≡◌, ℕ, zero, suc, ◌+◌, ◌≤◌, Bool, true, false, true≢false, ◌||◌, if◌then◌else◌, List, [], ◌∷◌, ◌++◌, map, length, Option, Some, None, append_assoc, refl, ap, sym, ◌∙◌, subst, inl, inr, arith}
+use Rattle.std.specs.Prelude.{is_some}
 use Rattle.std.specs.Map.{lookup}
 use Rattle.std.specs.Option.{option_or, option_map_or}
 use Rattle.std.specs.Cmp.Lexicographic.{bytes_decides}
 use Rattle.std.proofs.lemmas.List.{append-nil, map-append, length-append}
 use Rattle.up_text.specs.declared.name.Name.{Name}
 use Rattle.up_text.specs.Names.{IsName, same_name, reserved_words}
-use Rattle.up_text.specs.Lists.{Every, Member, Differ}
+use Rattle.up_text.specs.Lists.{Every, Member}
 use Rattle.pddl_lex.specs.Verdicts.{fine}
 use Rattle.pddl_parse.specs.declared.raw.Ident.{Ident}
 use Rattle.pddl_parse.specs.declared.raw.RawGroup.{RawGroup}
-use Rattle.up_tree.specs.Objects.{chain, type_in}
+use Rattle.up_tree.specs.Objects.{chain}
 use Rattle.up_tree.specs.WellFormed.{AreDeclared, top_type}
-use Rattle.up_phrase.specs.declared.reason.Reason.{Reason}
-use Rattle.up_phrase.specs.declared.reason.Reason.TheVariants.{Duplicate, TypeCycle}
+use Rattle.up_phrase.specs.declared.reason.Reason.TheVariants.{TypeCycle}
 use Rattle.up_phrase.specs.Named.{at, object, is_object}
 use Rattle.up_phrase.specs.Scopes.{type_named, typed}
-use Rattle.up_declare.specs.Types.{Types, parent_in, with_type, with_names, with_groups, with_parents, leaves, reaches, reason_at, fault_at, name_faults, type_faults, types}
-use Rattle.read_laws.specs.Agreement.{IfFine}
+use Rattle.up_declare.specs.Types.{Types, parent_in, with_type, with_names, with_groups, with_parents, leaves, reaches, reason_at, fault_at, name_faults, type_faults}
 use Rattle.read_laws.specs.Literal.{HaveNames}
 use Rattle.read_laws.specs.SoundTypes.{AreSoundTypes, IsNamedType, HaveNamedTypes}
 use Rattle.read_laws.specs.Laws.{TypesAreSound}

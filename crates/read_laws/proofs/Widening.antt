@@ -1,23 +1,21 @@
 -- A condition stays one where more variables are in scope, none of which it binds.
-use Rattle.std.proofs.Common.{◌≡◌, Bool, true, false, true≢false, cond, List, [], ◌∷◌, ◌++◌, map, Option, Some, None, option_map, IsSomeAnd, refl, ap, sym, ◌∙◌, subst, inl, inr}
-use Rattle.std.specs.Prelude.{⊤, is_some, IsSome, find}
+use Rattle.std.proofs.Common.{◌≡◌, Bool, true, false, true≢false, cond, List, [], ◌∷◌, ◌++◌, Option, Some, None, option_map, IsSomeAnd, refl, ap, sym, subst, inl, inr}
+use Rattle.std.specs.Prelude.{IsSome}
 use Rattle.std.proofs.lemmas.List.{map-append}
 use Rattle.up_text.specs.declared.name.Name.{Name}
 use Rattle.up_text.specs.Names.{same_name}
 use Rattle.up_text.specs.Lists.{Every, Member}
 use Rattle.up_tree.specs.declared.expr.Expr.{Expr, Number, Fluent}
 use Rattle.up_tree.specs.declared.formula.Formula.{Formula, And', Or', Atom, Equal, Compare, Row_of-Formula, end_of-Formula, more_of-Formula}
-use Rattle.up_tree.specs.declared.problem.Function.{Function}
-use Rattle.up_tree.specs.declared.problem.Predicate.{Predicate}
 use Rattle.up_tree.specs.declared.problem.Parts.{Parts}
 use Rattle.up_tree.specs.declared.term.Term.{Term, Var, Object, Fluent', Row_of-Term, end_of-Term, more_of-Term}
 use Rattle.up_tree.specs.declared.term.Typed.{Typed}
 use Rattle.up_tree.specs.Nodes.{not, imply, exists, forall, sum, difference, product, quotient}
 use Rattle.up_tree.specs.Objects.{named, type_in, predicate_named, function_named}
-use Rattle.up_tree.specs.WellFormed.{IsType, IsBelow, IsTerm, RowFits, TermFits, TermsFit, IsAtom, IsNumberTerm, IsExpr, IsFormula, AreFormulas, AreVariables, term_type, gives_object, GivesNumber}
+use Rattle.up_tree.specs.WellFormed.{IsBelow, IsTerm, RowFits, TermsFit, IsAtom, IsNumberTerm, IsExpr, IsFormula, AreFormulas, AreVariables, term_type, gives_object, GivesNumber}
 use Rattle.up_phrase.specs.Barred.{names_of, binds, all_bind}
 use Rattle.read_laws.proofs.Tables.{is_there}
-use Rattle.read_laws.proofs.Members.{member_front, member_back, every_as, every_append, every_map}
+use Rattle.read_laws.proofs.Members.{member_front, member_back, every_as, every_append}
 
 abbrev pub IsFresh : List Typed → Name → Type 0
 IsFresh scope n = ¬ Member n (names_of scope)
