@@ -160,9 +160,13 @@ module _ (types : List (Name × Name)) where
       (fine_turns (Kept types Either (GivesKnown types)) (λ (it : Ident). IsName it.name) (with_object (type_named group.of)) group.names
       (λ it more is so. object_kept types (GivesKnown types) Either (type_named group.of) it more (inr refl) is so) named names
       (record {
-        same = kept.same; objects = kept.objects;
+        same = kept.same;
+        objects = kept.objects;
         object_types = every_as (λ o. IsKnown types o.1) (λ o. Either o.1) names.objects (λ o is. inl is) kept.object_types;
-        symbols = kept.symbols; predicate_types = kept.predicate_types; function_types = kept.function_types; value_types = kept.value_types;
+        symbols = kept.symbols;
+        predicate_types = kept.predicate_types;
+        function_types = kept.function_types;
+        value_types = kept.value_types;
       }))
       (λ more so. fine_behind (AllKept types) (type_fault more group.of) (fine more) (λ none. settled more so (stated_known types more so.same group.of none)))
     where
@@ -175,9 +179,13 @@ module _ (types : List (Name × Name)) where
 
       settled : (more : Declarations) → Kept types Either (GivesKnown types) more → IsKnown types (type_named group.of) → Kept types (IsKnown types) (GivesKnown types) more
       settled more so is = record {
-        same = so.same; objects = so.objects;
+        same = so.same;
+        objects = so.objects;
         object_types = every_as (λ o. Either o.1) (λ o. IsKnown types o.1) more.objects (λ o e. known is o.1 e) so.object_types;
-        symbols = so.symbols; predicate_types = so.predicate_types; function_types = so.function_types; value_types = so.value_types;
+        symbols = so.symbols;
+        predicate_types = so.predicate_types;
+        function_types = so.function_types;
+        value_types = so.value_types;
       }
 
   -- ---- predicates and functions
@@ -201,22 +209,28 @@ module _ (types : List (Name × Name)) where
   new_is names same symbol =
       fine_behind (IsNew names symbol.name.name) (unless (not (is_symbol names symbol.name.name)) (at symbol.name.place Duplicate symbol.name.name)) (arg_types names symbol.params) (λ none.
       fine_as (Every (IsKnown types)) (IsNew names symbol.name.name) (arg_types names symbol.params)
-      (λ args are. (are, (λ m. neither (is_some (predicate_of names symbol.name.name)) (is_some (function_of names symbol.name.name)) (holds (not (is_symbol names symbol.name.name)) _ none)
-      (elim (either_name symbol.name.name (names_in names.predicates) (names_in names.functions) m)
-      [ inl a ↦ inl (there symbol.name.name names.predicates a) | inr b ↦ inr (there symbol.name.name names.functions b) ])))) (args_known names same symbol.params))
+      (λ args are. (
+        are,
+        (λ m. neither (is_some (predicate_of names symbol.name.name)) (is_some (function_of names symbol.name.name)) (holds (not (is_symbol names symbol.name.name)) _ none)
+            (elim (either_name symbol.name.name (names_in names.predicates) (names_in names.functions) m)
+            [ inl a ↦ inl (there symbol.name.name names.predicates a) | inr b ↦ inr (there symbol.name.name names.functions b) ])),
+      )) (args_known names same symbol.params))
 
   predicate_kept : (symbol : RawSymbol) (names : Declarations) → IsName symbol.name.name → AllKept types names → IfFine (with_predicate symbol names) (AllKept types)
   predicate_kept symbol names named kept =
       fine_after (IsNew names symbol.name.name) (AllKept types) (new_symbol names symbol) (λ args. fine (and_predicate names symbol.name.name args)) (new_is names kept.same symbol) (λ args new.
       record {
-        same = kept.same; objects = kept.objects; object_types = kept.object_types;
+        same = kept.same;
+        objects = kept.objects;
+        object_types = kept.object_types;
         symbols = subst (λ ns. AreDeclared (ns ++ names_in names.functions)) (sym (map-append (λ (e : Name × List Name). e.0) names.predicates ((symbol.name.name, args) ∷ [])))
             (record {
               names_all = every_between IsName symbol.name.name (names_in names.predicates) (names_in names.functions) kept.symbols.names_all named;
               differ = differ_between symbol.name.name (names_in names.predicates) (names_in names.functions) kept.symbols.differ new.1;
             });
         predicate_types = every_append (λ d. Every (IsKnown types) d.1) names.predicates ((symbol.name.name, args) ∷ []) kept.predicate_types (new.0, tt);
-        function_types = kept.function_types; value_types = kept.value_types;
+        function_types = kept.function_types;
+        value_types = kept.value_types;
       })
 
   function_kept : (OfFunction : Gives → Type 0) (of : RawGives) (symbol : RawSymbol) (names : Declarations) → OfFunction (given of) → IsName symbol.name.name
@@ -225,7 +239,9 @@ module _ (types : List (Name × Name)) where
       fine_after (IsNew names symbol.name.name) (Kept types (IsKnown types) OfFunction) (new_symbol names symbol) (λ args. fine (and_function names symbol.name.name (signature of args)))
       (new_is names kept.same symbol) (λ args new.
       record {
-        same = kept.same; objects = kept.objects; object_types = kept.object_types;
+        same = kept.same;
+        objects = kept.objects;
+        object_types = kept.object_types;
         symbols = subst AreDeclared
             (append_assoc (names_in names.predicates) (names_in names.functions) (symbol.name.name ∷ [])
             ∙ ap (λ ns. names_in names.predicates ++ ns) (sym (map-append (λ (e : Name × Signature). e.0) names.functions ((symbol.name.name, signature of args) ∷ []))))
@@ -249,8 +265,12 @@ module _ (types : List (Name × Name)) where
       (fine_turns (Kept types (IsKnown types) Either) (λ (symbol : RawSymbol). IsName symbol.name.name) (with_function group.gives) group.functions
       (λ symbol more is so. function_kept Either group.gives symbol more (inr refl) is so) named names
       (record {
-        same = kept.same; objects = kept.objects; object_types = kept.object_types; symbols = kept.symbols;
-        predicate_types = kept.predicate_types; function_types = kept.function_types;
+        same = kept.same;
+        objects = kept.objects;
+        object_types = kept.object_types;
+        symbols = kept.symbols;
+        predicate_types = kept.predicate_types;
+        function_types = kept.function_types;
         value_types = every_as (λ d. GivesKnown types d.1.gives) (λ d. Either d.1.gives) names.functions (λ d is. inl is) kept.value_types;
       }))
       (λ more so. fine_behind (AllKept types) (gives_fault more group.gives) (fine more) (λ none. settled more so (given_known more so.same group.gives none)))
@@ -264,8 +284,12 @@ module _ (types : List (Name × Name)) where
 
       settled : (more : Declarations) → Kept types (IsKnown types) Either more → GivesKnown types (given group.gives) → Kept types (IsKnown types) (GivesKnown types) more
       settled more so is = record {
-        same = so.same; objects = so.objects; object_types = so.object_types; symbols = so.symbols;
-        predicate_types = so.predicate_types; function_types = so.function_types;
+        same = so.same;
+        objects = so.objects;
+        object_types = so.object_types;
+        symbols = so.symbols;
+        predicate_types = so.predicate_types;
+        function_types = so.function_types;
         value_types = every_as (λ d. Either d.1.gives) (λ d. GivesKnown types d.1.gives) more.functions (λ d e. known is d.1.gives e) so.value_types;
       }
 

@@ -60,10 +60,16 @@ module _ (barred : List Name) where
       by false free rest =
           fine_as (OfOne of (vars ++ (it.name, of) ∷ [])) (OfOne of vars) (entered barred of others (vars ++ (it.name, of) ∷ []))
           (λ inner (added, is, are, typed_so). (
-          (it.name, of) ∷ added, is ∙ append_assoc vars ((it.name, of) ∷ []) added,
-          (named.0, (λ m. or_left (is_some (variable_type vars it.name)) (list_any (same_name it.name) barred) free (there it.name vars m)),
-          (λ m. or_right (is_some (variable_type vars it.name)) (list_any (same_name it.name) barred) free (listed it.name barred m)), are),
-          (refl, typed_so))) rest
+            (it.name, of) ∷ added,
+            is ∙ append_assoc vars ((it.name, of) ∷ []) added,
+            (
+              named.0,
+              (λ m. or_left (is_some (variable_type vars it.name)) (list_any (same_name it.name) barred) free (there it.name vars m)),
+              (λ m. or_right (is_some (variable_type vars it.name)) (list_any (same_name it.name) barred) free (listed it.name barred m)),
+              are,
+            ),
+            (refl, typed_so),
+          )) rest
 
   module _ (names : Declarations) (p : Parts) (objects : List Typed) (agree : Agree names p objects) where
     stated_is : (of : Option Ident) → type_fault names of ≡ [] → IsType p (type_named of)

@@ -89,8 +89,11 @@ record Grown (before after : Types) : Type 0 where
 grown_more : (before ts : Types) (name : Name) → Grown before ts → Grown before (with_type name object ts)
 grown_more before ts name g =
     with_type_is (Grown before) name object ts g (λ other none.
-    record { extra = g.extra ++ (name, object) ∷ []; is = ap (λ es. es ++ (name, object) ∷ []) g.is ∙ append_assoc before g.extra ((name, object) ∷ []);
-      top = every_append (λ e. e.1 ≡ object) g.extra ((name, object) ∷ []) g.top (refl, tt) })
+    record {
+      extra = g.extra ++ (name, object) ∷ [];
+      is = ap (λ es. es ++ (name, object) ∷ []) g.is ∙ append_assoc before g.extra ((name, object) ∷ []);
+      top = every_append (λ e. e.1 ≡ object) g.extra ((name, object) ∷ []) g.top (refl, tt);
+    })
 
 parents_grown : (groups : List RawGroup) (before ts : Types) → Grown before ts → Grown before (with_parents groups ts)
 parents_grown [] before ts g = g

@@ -107,9 +107,15 @@ module _ (names : Declarations) (p : Parts) (objects : List Typed) (agree : Agre
       → signature.gives ≡ g → IfFine (object_giver names s place f due signature.args g) (GivesDue f.name due)
   giver_is place f due signature gives.Number is so = tt
   giver_is place f due signature (gives.Object of) is so =
-      fine_behind (GivesDue f.name due) (unadmitted s place f.name ++ unless (fits names of due) (at place TypeMismatch f.name)) (fine signature.args) (λ none.
-      (signature, of, is, refl, ap gives_object so, subst (OfGives p) so (agree.given_types f.name signature is),
-      holds (fits names of due) _ (none_behind (unadmitted s place f.name) _ none)))
+      fine_behind (GivesDue f.name due) (unadmitted s place f.name ++ unless (fits names of due) (at place TypeMismatch f.name)) (fine signature.args) (λ none. (
+        signature,
+        of,
+        is,
+        refl,
+        ap gives_object so,
+        subst (OfGives p) so (agree.given_types f.name signature is),
+        holds (fits names of due) _ (none_behind (unadmitted s place f.name) _ none),
+      ))
 
   object_function_is : (place : Place) (f : Ident) (due : Option Name) (found : Option Signature) → function_of names f.name ≡ found
       → IfFine (object_function names s place f due found) (GivesDue f.name due)

@@ -127,12 +127,19 @@ module _ (names : Declarations) (p : Parts) (objects : List Typed) (agree : Agre
         formula-Atom names vars Plain place (ident_at name there) args ∙ ap (over (λ us. Atom name us)) (atom_read scope vars same name ts is place there args are)
     formula_read (Equal t u) scope vars same is _ (a_compare place a b so_t so_u) =
         formula-Compare names vars Plain place stated.Same a b
-        ∙ rw (term_not_numeric names p objects agree scope t is.0 a so_t, term_read names p objects agree scope vars same t is.0 None tt a so_t,
-        term_read names p objects agree scope vars same u is.1 None tt b so_u) refl
+        ∙ rw (
+          term_not_numeric names p objects agree scope t is.0 a so_t,
+          term_read names p objects agree scope vars same t is.0 None tt a so_t,
+          term_read names p objects agree scope vars same u is.1 None tt b so_u,
+        ) refl
     formula_read (Compare r x y) scope vars same is _ (a_compare place a b so_x so_y) =
         formula-Compare names vars Plain place (raw_relation r) a b
-        ∙ rw (no_equality names r a (expr_numeric names p objects agree scope x is.0 a so_x), expr_read names p objects agree scope vars same x is.0 a so_x,
-        expr_read names p objects agree scope vars same y is.1 b so_y, same_relation r) refl
+        ∙ rw (
+          no_equality names r a (expr_numeric names p objects agree scope x is.0 a so_x),
+          expr_read names p objects agree scope vars same x is.0 a so_x,
+          expr_read names p objects agree scope vars same y is.1 b so_y,
+          same_relation r,
+        ) refl
 
     members_read : {n : _} (fs : Row_of-Formula n) (scope : List Typed) (vars : Variables) → SameScope scope vars → AreFormulas p objects scope fs
         → (raws : List RawFormula) → AreRawMembers written fs raws → all (map (formula names vars Plain) raws) ≡ fine (items-the_row-Formula _ fs)

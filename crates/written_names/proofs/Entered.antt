@@ -100,9 +100,10 @@ fresh_free scope (v ∷ new) vars same fresh = (same v.name ∙ none_typed scope
 pub still_free : (vars : Variables) (name of : Name) (new : List Typed) → ¬ Member name (map (λ v. v.name) new) → Free vars new → Free (vars ++ (name, of) ∷ []) new
 unfolding or_else
 still_free vars name of [] out free = tt
-still_free vars name of (w ∷ new) out free =
-    (lookup-append w.name vars ((name, of) ∷ []) ∙ ap (λ o. or_else o (lookup (same_name w.name) ((name, of) ∷ []))) free.0 ∙ by (same_name w.name name) refl,
-    still_free vars name of new (λ m. out (inr m)) free.1)
+still_free vars name of (w ∷ new) out free = (
+  lookup-append w.name vars ((name, of) ∷ []) ∙ ap (λ o. or_else o (lookup (same_name w.name) ((name, of) ∷ []))) free.0 ∙ by (same_name w.name name) refl,
+  still_free vars name of new (λ m. out (inr m)) free.1,
+)
   where
     by : (b : Bool) → same_name w.name name ≡ b → or_else None (cond b (Some of) None) ≡ None
     by true is = absurd (out (inl (sym ((bytes_decides w.name name).0 is))))

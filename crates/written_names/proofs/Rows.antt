@@ -68,8 +68,11 @@ module _ (names : Declarations) (p : Parts) (objects : List Typed) (agree : Agre
       when_read : is_always f ≡ false → (raw : RawEffect) → IsRawWhen (IsRawFormula written f) (IsRawEffect e) raw → rows names (among count vars) raw ≡ fine (row_of (map typed (drop count vars)) f e ∷ [])
       when_read is _ (a_when x y so_f so_e) =
           rows-When names (among count vars) x y
-          ∙ rw (formula_read names p objects agree written all_written f scope vars same is_f x so_f,
-          effect_read names p objects agree written all_written scope (under (among count vars) f) same e is_e y so_e, is) refl
+          ∙ rw (
+            formula_read names p objects agree written all_written f scope vars same is_f x so_f,
+            effect_read names p objects agree written all_written scope (under (among count vars) f) same e is_e y so_e,
+            is,
+          ) refl
 
       by : (b : Bool) → is_always f ≡ b → rows names (among count vars) raw ≡ fine (row_of (map typed (drop count vars)) f e ∷ [])
       by true is =
@@ -113,6 +116,10 @@ actions_are_named names p agree written all_written a is raw so =
     let vars : Variables = map entry a.params in
     let same : SameScope a.params vars = λ v. entry_found a.params v in
     let objects : List Typed = take p.constants p.objects in
-    rw (variables_entered names p objects agree written all_written [] a.params is.params raw.params so.params [] (λ v. refl),
-    formula_read names p objects agree written all_written a.pre a.params vars same is.pre raw.pre so.pre,
-    rows_read names p objects agree written all_written a.params vars same a.rows is.rows raw.effect so.effect, name_is a.name raw.name so.name, map_back a.params) refl
+    rw (
+      variables_entered names p objects agree written all_written [] a.params is.params raw.params so.params [] (λ v. refl),
+      formula_read names p objects agree written all_written a.pre a.params vars same is.pre raw.pre so.pre,
+      rows_read names p objects agree written all_written a.params vars same a.rows is.rows raw.effect so.effect,
+      name_is a.name raw.name so.name,
+      map_back a.params,
+    ) refl

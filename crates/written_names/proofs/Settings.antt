@@ -129,8 +129,11 @@ module _ (names : Declarations) (p : Parts) (objects : List Typed) (agree : Agre
       plain_formula_read (Equal t u) scope vars same plain is _ (a_compare place a b so_t so_u) =
           let plains = first_plain t (u ∷ []) plain in
           formula-Compare names vars s place stated.Same a b
-          ∙ rw (term_not_numeric names p objects agree scope t is.0 a so_t, plain_term_read scope vars same t plains.0 is.0 None tt a so_t,
-          plain_term_read scope vars same u plains.1 is.1 None tt b so_u) refl
+          ∙ rw (
+            term_not_numeric names p objects agree scope t is.0 a so_t,
+            plain_term_read scope vars same t plains.0 is.0 None tt a so_t,
+            plain_term_read scope vars same u plains.1 is.1 None tt b so_u,
+          ) refl
       plain_formula_read (Compare r x y) scope vars same plain is raw so = absurd plain
 
       plain_members_read : {n : _} (fs : Row_of-Formula n) (scope : List Typed) (vars : Variables) → SameScope scope vars → ArePlain fs → AreFormulas p objects scope fs

@@ -6,6 +6,6 @@ mod laws;
 pub use laws::{
     actions_are_named, conditions_are_named, declared_agree, each_function_is_named,
     effects_are_named, expressions_are_named, functions_are_named, objects_are_named,
-    plain_conditions_are_named, plain_expressions_are_named, predicates_are_named,
-    terms_are_named, types_are_named, types_are_written,
+    plain_conditions_are_named, plain_expressions_are_named, predicates_are_named, terms_are_named,
+    types_are_named, types_are_written,
 };
