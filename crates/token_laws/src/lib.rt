@@ -1,0 +1,2 @@
+//! Laws of the tokens of a text: its numbers are literals.
+#![tactic(auto)]
