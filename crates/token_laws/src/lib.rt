@@ -1,2 +1,6 @@
-//! Laws of the tokens of a text: its numbers are literals.
+//! Laws of the tokens and the bracket trees of a text: their numbers are literals.
 #![tactic(auto)]
+
+mod laws;
+
+pub use laws::{number_tokens_are_literals, trees_have_literals};
