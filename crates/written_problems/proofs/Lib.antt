@@ -1,0 +1,4 @@
+pub mod Initial
+pub mod Problems
+pub mod Reading
+pub mod Rules
