@@ -1,17 +1,16 @@
 -- The initial state of a written problem is read as it is.
-use Rattle.std.proofs.Common.{◌≡◌, ◌&&◌, suc, Bool, true, false, true≢false, List, [], ◌∷◌, ◌++◌, map, drop, get_or, length, Option, Some, None, option_map, refl, ap, sym, ◌∙◌, append_assoc, inl, inr}
-use Rattle.std.specs.Prelude.{IsSomeAnd, ◌==◌}
+use Rattle.std.proofs.Common.{◌≡◌, ◌&&◌, suc, Bool, true, false, true≢false, List, [], ◌∷◌, ◌++◌, map, drop, get_or, length, Some, None, option_map, refl, ap, sym, ◌∙◌, append_assoc, inl, inr}
+use Rattle.std.specs.Prelude.{IsSomeAnd}
 use Rattle.std.specs.List.{list_any}
 use Rattle.std.specs.Cmp.{unsigned_Decides}
 use Rattle.std.specs.Cmp.Lexicographic.{pointwise, pointwise_decides, bytes_decides}
 use Rattle.std.proofs.lemmas.Bool.{false_from_ne_true}
-use Rattle.std.proofs.lemmas.List.{append-nil, map-append}
+use Rattle.std.proofs.lemmas.List.{append-nil}
 use Rattle.up_text.specs.declared.name.Name.{Name}
 use Rattle.up_text.specs.declared.place.Place.{Place}
 use Rattle.up_text.specs.Names.{same_name}
 use Rattle.up_text.specs.Lists.{Every, Member, Differ}
 use Rattle.up_frac.specs.declared.frac.Frac.{Frac}
-use Rattle.up_tree.specs.declared.term.Typed.{Typed}
 use Rattle.up_tree.specs.declared.problem.Fact.{Fact}
 use Rattle.up_tree.specs.declared.problem.Function.{Function}
 use Rattle.up_tree.specs.declared.problem.Gives.{Gives}
@@ -29,7 +28,6 @@ use Rattle.pddl_parse.specs.declared.raw.RawInit.{RawInit}
 use Rattle.pddl_parse.specs.declared.raw.RawInit.TheVariants as member
 use Rattle.pddl_parse.specs.declared.raw.RawValue.TheVariants as value
 use Rattle.pddl_parse.specs.Forms.{ident_at}
-use Rattle.up_phrase.specs.declared.names.Signature.{Signature}
 use Rattle.up_phrase.specs.declared.reason.Reason.TheVariants.{TypeMismatch}
 use Rattle.up_phrase.specs.Declarations.{Declarations}
 use Rattle.up_phrase.specs.Lookups.{type_of, predicate_of, function_of}

@@ -1,5 +1,5 @@
 -- The abstract syntax of a written problem is read as the problem.
-use Rattle.std.proofs.Common.{◌≡◌, ℕ, List, [], ◌∷◌, ◌++◌, map, take, drop, length, length-take-le, refl, ap, sym, subst, ◌∙◌}
+use Rattle.std.proofs.Common.{◌≡◌, List, [], ◌∷◌, ◌++◌, map, take, drop, length, length-take-le, refl, ap, sym, subst, ◌∙◌}
 use Rattle.std.specs.Cmp.Lexicographic.{bytes_decides}
 use Rattle.std.proofs.lemmas.List.{length-map, map-append, take-append-drop}
 use Rattle.up_text.specs.declared.name.Name.{Name}

@@ -1,6 +1,4 @@
 -- What is written for a problem reads as it again.
-use Rattle.up_tree.specs.declared.problem.Parts.{Parts}
-use Rattle.up_tree.specs.WellFormed.{IsWellFormed}
 use Rattle.written_files.specs.Laws.{ReadsProblem}
 use Rattle.written_files.proofs.Reading.{problems_are_read}
 use Rattle.written_domains.specs.Known.{known_of_parts}

@@ -1,5 +1,5 @@
 -- The constraints and the metric of a written problem are read as they are.
-use Rattle.std.proofs.Common.{◌≡◌, Bool, List, [], ◌∷◌, map, Option, Some, None, refl, ap, ◌∙◌}
+use Rattle.std.proofs.Common.{◌≡◌, Bool, List, [], ◌∷◌, map, Option, refl, ap, ◌∙◌}
 use Rattle.up_text.specs.Lists.{Every}
 use Rattle.up_tree.specs.declared.term.Typed.{Typed}
 use Rattle.up_tree.specs.declared.formula.Formula.{Formula}
@@ -7,9 +7,8 @@ use Rattle.up_tree.specs.declared.problem.Constraint.{Constraint}
 use Rattle.up_tree.specs.declared.problem.Metric.{Metric}
 use Rattle.up_tree.specs.declared.problem.Parts.{Parts}
 use Rattle.up_tree.specs.declared.problem.Rule.{Rule}
-use Rattle.up_tree.specs.declared.problem.Rule.TheVariants as rule
 use Rattle.up_tree.specs.WellFormed.{AreVariables, IsFormula, IsPlain, IsConstraint, OnMetric, formulas_of}
-use Rattle.pddl_lex.specs.Verdicts.{fine, over}
+use Rattle.pddl_lex.specs.Verdicts.{fine}
 use Rattle.pddl_parse.specs.declared.raw.RawConstraint.{RawConstraint}
 use Rattle.pddl_parse.specs.declared.raw.RawFormula.{RawFormula}
 use Rattle.pddl_parse.specs.declared.raw.RawMetric.{RawMetric}
