@@ -46,7 +46,7 @@ chain_starts types zero t is = inl (sym is)
 chain_starts types (suc n) t is = inl (sym is)
 
 module _ (names : Declarations) (types_sound : AreSoundTypes names.types) (sound : AreSound names) (p : Parts) (more : List (Name × Name)) (has : HasDeclared p names more) where
-  type_is : (t : Name) → is_type names t ≡ true → IsType p t
+  pub type_is : (t : Name) → is_type names t ≡ true → IsType p t
   type_is t e = by (is_object t) refl (parent_of names t) refl e
     where
       by : (b : Bool) → is_object t ≡ b → (o : Option Name) → parent_of names t ≡ o → (b || is_some o) ≡ true → IsType p t
@@ -64,7 +64,7 @@ module _ (names : Declarations) (types_sound : AreSoundTypes names.types) (sound
       let size : length names.types ≡ length (map typed names.types) = rw (length-map) refl in
       subst (λ types. Member top_type (chain types (length types) t)) (sym has.types) (subst (λ n. Member top_type (chain (map typed names.types) n t)) size reached)
 
-  gives_is : (g : Gives) → GivesType names g → OfGives p g
+  pub gives_is : (g : Gives) → GivesType names g → OfGives p g
   gives_is gives.Number is = tt
   gives_is (gives.Object of) is = type_is of is
 
@@ -83,3 +83,16 @@ module _ (names : Declarations) (types_sound : AreSoundTypes names.types) (sound
 
 pub sound_agree : SoundAgree
 sound_agree names types_sound sound p more has = agree names types_sound sound p more has
+
+-- what agrees where some objects may be named agrees where all may
+pub agree_all : (names : Declarations) (p : Parts) (objects : List Typed) → Agree names p objects → Agree names p p.objects
+agree_all names p objects agree = record {
+  types = agree.types;
+  predicates = agree.predicates;
+  functions = agree.functions;
+  below_top = agree.below_top;
+  admitted = λ o of is. is_there (λ (entry : Typed). entry.of) (named p.objects o) of (agree.object_types o of is);
+  object_types = agree.object_types;
+  known_types = agree.known_types;
+  given_types = agree.given_types;
+}

@@ -1,7 +1,6 @@
 -- What is read as constraints and as a metric are constraints and a metric.
 use Rattle.std.proofs.Common.{◌≡◌, List, [], ◌∷◌, ◌++◌, map, Option, Some, None, refl, sym, subst}
 use Rattle.up_text.specs.Lists.{Every}
-use Rattle.pddl_lex.specs.Verdicts.{Verdict, fine, faulty}
 use Rattle.pddl_parse.specs.declared.raw.RawConstraint.{RawConstraint, Row_of-RawConstraint, end_of-RawConstraint, more_of-RawConstraint}
 use Rattle.pddl_parse.specs.declared.raw.RawConstraint as form
 use Rattle.pddl_parse.specs.declared.raw.RawFormula.{RawFormula}
@@ -26,18 +25,13 @@ use Rattle.up_check.specs.Nodes.{forall}
 use Rattle.read_laws.specs.Agreement.{IfFine, Agree}
 use Rattle.read_laws.specs.Literal.{IsWritten, IsWrittenConstraint, AreWrittenConstraints, IsWrittenMetric}
 use Rattle.read_laws.specs.Laws.{ConstraintsAreWellFormed, MetricsAreWellFormed}
-use Rattle.read_laws.proofs.Verdicts.{fine_over, fine_two, fine_after}
+use Rattle.read_laws.proofs.Verdicts.{fine_over, fine_two, fine_after, fine_and}
 use Rattle.read_laws.proofs.Members.{every_append}
 use Rattle.read_laws.proofs.Entering.{AreAdded, OfMany, added_both, groups_are, are_variables}
 use Rattle.read_laws.proofs.Exprs.{expr_is}
 use Rattle.read_laws.proofs.Conditions.{formula_is}
 use Rattle.read_laws.proofs.Actions.{agree_empty, agree_alone}
 use Rattle.read_laws.proofs.Plain.{expr_plain, formula_plain}
-
--- what is read is both
-pub fine_and : {F A : Type 0} (P Q : A → Type 0) (v : Verdict F A) → IfFine v P → IfFine v Q → IfFine v (λ a. P a × Q a)
-fine_and P Q (fine a) p q = (p, q)
-fine_and P Q (faulty f fs) p q = tt
 
 module _ (names : Declarations) (p : Parts) (agree : Agree names p p.objects) where
   -- variables that are in scope, from the outermost on

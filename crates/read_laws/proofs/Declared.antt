@@ -26,13 +26,14 @@ use Rattle.up_phrase.specs.Scopes.{type_named, type_fault}
 use Rattle.up_phrase.specs.Walks.{Checked, unless, in_turn}
 use Rattle.up_declare.specs.Declaring.{and_predicate, and_function, declared_as, with_object, with_group, with_objects, is_symbol, each_of, arg_types, new_symbol, with_predicate, with_predicates, given, gives_fault, signature, with_function, with_function_group, with_functions}
 use Rattle.read_laws.specs.Agreement.{IfFine}
-use Rattle.read_laws.specs.Sound.{GivesType, AreSound, AreNamed}
+use Rattle.read_laws.specs.Literal.{HaveNames}
+use Rattle.read_laws.specs.Sound.{GivesType, AreSound, AreNamed, AreNamedFunctions}
 use Rattle.read_laws.specs.Laws.{ObjectsKeepSound, PredicatesKeepSound, FunctionsKeepSound}
 use Rattle.read_laws.proofs.Verdicts.{fine_as, fine_over, fine_after, fine_behind, holds}
 use Rattle.read_laws.proofs.Members.{every_as, every_append, names_in, there}
 use Rattle.read_laws.proofs.Facts.{differ_more}
 
-fine_turns : {X A : Type 0} (P : A → Type 0) (Q : X → Type 0) (step : X → A → Checked A) (xs : List X)
+pub fine_turns : {X A : Type 0} (P : A → Type 0) (Q : X → Type 0) (step : X → A → Checked A) (xs : List X)
     → ((x : X) (a : A) → Q x → P a → IfFine (step x a) P) → Every Q xs → (a : A) → P a → IfFine (in_turn step xs a) P
 fine_turns P Q step [] on all a is = is
 fine_turns P Q step (x ∷ xs) on all a is =
@@ -293,20 +294,43 @@ module _ (types : List (Name × Name)) where
         value_types = every_as (λ d. Either d.1.gives) (λ d. GivesKnown types d.1.gives) more.functions (λ d e. known is d.1.gives e) so.value_types;
       }
 
+-- sound declarations over these types
+abbrev pub SoundOver : List (Name × Name) → Declarations → Type 0
+SoundOver types names = (names.types ≡ types) × AreSound names
+
+kept_over : (types : List (Name × Name)) (names : Declarations) → SoundOver types names → AllKept types names
+kept_over types names (same, sound) = subst (λ ts. AllKept ts names) same (kept_of names sound)
+
+over_kept : (types : List (Name × Name)) (names : Declarations) → AllKept types names → SoundOver types names
+over_kept types names kept = (kept.same, sound_of types names kept)
+
+module _ (types : List (Name × Name)) (names : Declarations) (over : SoundOver types names) where
+  pub objects_over : (groups : List RawGroup) → HaveNames groups → IfFine (with_objects groups names) (SoundOver types)
+  objects_over groups named =
+      fine_as (AllKept types) (SoundOver types) (with_objects groups names) (over_kept types)
+      (fine_turns (AllKept types) (λ (group : RawGroup). Every (λ (it : Ident). IsName it.name) group.names) with_group groups
+      (λ group more is kept. group_kept types group more is kept) named names (kept_over types names over))
+
+  pub predicates_over : (symbols : List RawSymbol) → AreNamed symbols → IfFine (with_predicates symbols names) (SoundOver types)
+  predicates_over symbols named =
+      fine_as (AllKept types) (SoundOver types) (with_predicates symbols names) (over_kept types)
+      (fine_turns (AllKept types) (λ (symbol : RawSymbol). IsName symbol.name.name) with_predicate symbols
+      (λ symbol more is kept. predicate_kept types symbol more is kept) named names (kept_over types names over))
+
+  pub functions_over : (groups : List RawFunctions) → AreNamedFunctions groups → IfFine (with_functions groups names) (SoundOver types)
+  functions_over groups named =
+      fine_as (AllKept types) (SoundOver types) (with_functions groups names) (over_kept types)
+      (fine_turns (AllKept types) (λ (group : RawFunctions). AreNamed group.functions) with_function_group groups
+      (λ group more is kept. functions_kept types group more is kept) named names (kept_over types names over))
+
 pub objects_keep_sound : ObjectsKeepSound
 objects_keep_sound names sound groups named =
-    fine_as (AllKept names.types) AreSound (with_objects groups names) (sound_of names.types)
-    (fine_turns (AllKept names.types) (λ (group : RawGroup). Every (λ (it : Ident). IsName it.name) group.names) with_group groups
-    (λ group more is kept. group_kept names.types group more is kept) named names (kept_of names sound))
+    fine_as (SoundOver names.types) AreSound (with_objects groups names) (λ more so. so.1) (objects_over names.types names (refl, sound) groups named)
 
 pub predicates_keep_sound : PredicatesKeepSound
 predicates_keep_sound names sound symbols named =
-    fine_as (AllKept names.types) AreSound (with_predicates symbols names) (sound_of names.types)
-    (fine_turns (AllKept names.types) (λ (symbol : RawSymbol). IsName symbol.name.name) with_predicate symbols
-    (λ symbol more is kept. predicate_kept names.types symbol more is kept) named names (kept_of names sound))
+    fine_as (SoundOver names.types) AreSound (with_predicates symbols names) (λ more so. so.1) (predicates_over names.types names (refl, sound) symbols named)
 
 pub functions_keep_sound : FunctionsKeepSound
 functions_keep_sound names sound groups named =
-    fine_as (AllKept names.types) AreSound (with_functions groups names) (sound_of names.types)
-    (fine_turns (AllKept names.types) (λ (group : RawFunctions). AreNamed group.functions) with_function_group groups
-    (λ group more is kept. functions_kept names.types group more is kept) named names (kept_of names sound))
+    fine_as (SoundOver names.types) AreSound (with_functions groups names) (λ more so. so.1) (functions_over names.types names (refl, sound) groups named)

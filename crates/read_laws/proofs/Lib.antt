@@ -15,3 +15,5 @@ pub mod Facts
 pub mod Declared
 pub mod SoundTypes
 pub mod Agreeing
+pub mod Growing
+pub mod ActionLists

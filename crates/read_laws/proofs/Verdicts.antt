@@ -1,5 +1,6 @@
 -- What holds of parts that are read holds of what is read of them.
-use Rattle.std.proofs.Common.{◌≡◌, Bool, true, false, List, [], ◌∷◌, ◌++◌, refl}
+use Rattle.std.proofs.Common.{◌≡◌, Bool, true, false, List, [], ◌∷◌, ◌++◌, refl, subst}
+use Rattle.std.specs.Prelude.{⊤}
 use Rattle.up_text.specs.Lists.{Every}
 use Rattle.pddl_lex.specs.Verdicts.{Verdict, fine, faulty, all, over, over_two, behind, followed}
 use Rattle.up_phrase.specs.declared.fault.Fault.{Fault}
@@ -52,3 +53,21 @@ none_before (x ∷ xs) ys e = cc
 pub fine_all : {F A : Type 0} (P : A → Type 0) (vs : List (Verdict F A)) → Every (λ v. IfFine v P) vs → IfFine (all vs) (Every P)
 fine_all P [] are = tt
 fine_all P (v ∷ vs) are = fine_two P (Every P) (Every P) (λ x xs. x ∷ xs) v (all vs) (λ a b is others. (is, others)) are.0 (fine_all P vs are.1)
+
+-- what is read is so for each if it is so for any
+pub fine_each : {F A X : Type 0} (P : X → A → Type 0) (v : Verdict F A) → ((x : X) → IfFine v (P x)) → IfFine v (λ a. (x : X) → P x a)
+fine_each P (fine a) are = are
+fine_each P (faulty f fs) are = tt
+
+-- nothing is asked of what is read
+pub fine_any : {F A : Type 0} (v : Verdict F A) → IfFine v (λ a. ⊤)
+fine_any (fine a) = tt
+fine_any (faulty f fs) = tt
+
+-- what is read is both
+pub fine_and : {F A : Type 0} (P Q : A → Type 0) (v : Verdict F A) → IfFine v P → IfFine v Q → IfFine v (λ a. P a × Q a)
+fine_and P Q (fine a) p q = (p, q)
+fine_and P Q (faulty f fs) p q = tt
+
+pub fine_is : {F A : Type 0} (P : A → Type 0) (v : Verdict F A) (a : A) → v ≡ fine a → IfFine v P → P a
+fine_is P v a is so = subst (λ w. IfFine w P) is so
