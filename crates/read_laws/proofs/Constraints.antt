@@ -97,10 +97,10 @@ module _ (names : Declarations) (p : Parts) (agree : Agree names p p.objects) wh
     each_are end_of-RawConstraint written vars scope = tt
     each_are (more_of-RawConstraint member members) written vars scope = (constraints_are member written.0 vars scope, each_are members written.1 vars scope)
 
-  all_are : (raw : RawConstraint) → IsWrittenConstraint raw → IfFine (constraints names [] raw) AreConstraints
+  pub all_are : (raw : RawConstraint) → IsWrittenConstraint raw → IfFine (constraints names [] raw) AreConstraints
   all_are raw written = constraints_are raw written [] (record { are = tt; known = tt })
 
-  metric_is : (raw : Option RawMetric) → IsWrittenMetric raw → IfFine (metric_of names raw) (OnMetric p)
+  pub metric_is : (raw : Option RawMetric) → IsWrittenMetric raw → IfFine (metric_of names raw) (OnMetric p)
   metric_is None written = tt
   metric_is (Some raw) written =
       fine_over (λ (m : Metric). IsExpr p p.objects [] m.value × IsPlainExpr m.value) (OnMetric p) (λ (it : Metric). Some it) (metric names raw) (λ m is. is)

@@ -17,3 +17,4 @@ pub mod SoundTypes
 pub mod Agreeing
 pub mod Growing
 pub mod ActionLists
+pub mod KnownDomains
