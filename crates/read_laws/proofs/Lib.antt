@@ -18,3 +18,4 @@ pub mod Agreeing
 pub mod Growing
 pub mod ActionLists
 pub mod KnownDomains
+pub mod Composing

@@ -1,10 +1,13 @@
 -- What is read is well formed, phrase by phrase.
-use Rattle.std.specs.Prelude.{List, [], Option, map, take}
+use Rattle.std.specs.Prelude.{◌≡◌, List, [], Option, map, take}
 use Rattle.up_text.specs.Lists.{Every}
 use Rattle.up_text.specs.declared.name.Name.{Name}
 use Rattle.up_tree.specs.declared.term.Typed.{Typed}
 use Rattle.up_tree.specs.declared.problem.Parts.{Parts}
-use Rattle.up_tree.specs.WellFormed.{IsAction, IsConstraint, IsExpr, IsFormula, OnMetric}
+use Rattle.up_tree.specs.WellFormed.{IsAction, IsConstraint, IsExpr, IsFormula, IsWellFormed, OnMetric}
+use Rattle.pddl_lex.specs.Verdicts.{fine}
+use Rattle.pddl_parse.specs.declared.raw.DomainForm.{DomainForm}
+use Rattle.pddl_parse.specs.declared.raw.ProblemForm.{ProblemForm}
 use Rattle.pddl_parse.specs.declared.raw.RawTerm.{RawTerm}
 use Rattle.pddl_parse.specs.declared.raw.RawFormula.{RawFormula}
 use Rattle.pddl_parse.specs.declared.raw.RawConstraint.{RawConstraint}
@@ -24,13 +27,16 @@ use Rattle.up_declare.specs.Types.{types}
 use Rattle.up_declare.specs.Declaring.{with_objects, with_predicates, with_functions}
 use Rattle.up_effect.specs.Actions.{action}
 use Rattle.up_check.specs.Constraints.{constraints}
+use Rattle.up_check.specs.Domains.{Known, domain_names}
 use Rattle.up_check.specs.Initial.{initial}
 use Rattle.up_check.specs.Metrics.{metric_of}
+use Rattle.up_check.specs.Problems.{problem_names}
 use Rattle.read_laws.specs.Agreement.{IfFine, Agree, AgreeInScope, IsTermDue}
 use Rattle.read_laws.specs.Initial.{IsInitial, IsWrittenInit}
 use Rattle.read_laws.specs.Sound.{AreSound, AreNamed, AreNamedFunctions, HasDeclared}
 use Rattle.read_laws.specs.SoundTypes.{AreSoundTypes, HaveNamedTypes}
 use Rattle.read_laws.specs.Literal.{HasLiterals, HaveNames, IsWritten, IsWrittenAction, IsWrittenConstraint, IsWrittenMetric}
+use Rattle.read_laws.specs.Written.{IsWrittenDomain, IsWrittenProblem}
 
 abbrev pub TermsAreWellFormed : Type 0
 TermsAreWellFormed =
@@ -89,3 +95,9 @@ abbrev pub SoundAgree : Type 0
 SoundAgree =
     (names : Declarations) → AreSoundTypes names.types → AreSound names
     → (p : Parts) (more : List (Name × Name)) → HasDeclared p names more → Agree names p (map typed names.objects)
+
+-- a problem as which written forms are read is one
+abbrev pub FormsAreWellFormed : Type 0
+FormsAreWellFormed =
+    (domain : DomainForm) → IsWrittenDomain domain → (problem : ProblemForm) → IsWrittenProblem problem
+    → (known : Known) → domain_names domain ≡ fine known → (parts : Parts) → problem_names known problem ≡ fine parts → IsWellFormed parts

@@ -1,4 +1,4 @@
-ghost use Rattle.read_laws.specs.Laws.{ActionsAreWellFormed, ConditionsAreWellFormed, ConstraintsAreWellFormed, ExpressionsAreWellFormed, FunctionsKeepSound, InitialStatesAreWellFormed, MetricsAreWellFormed, ObjectsKeepSound, PredicatesKeepSound, SoundAgree, TermsAreWellFormed, TypesAreSound};
+ghost use Rattle.read_laws.specs.Laws.{ActionsAreWellFormed, ConditionsAreWellFormed, ConstraintsAreWellFormed, ExpressionsAreWellFormed, FormsAreWellFormed, FunctionsKeepSound, InitialStatesAreWellFormed, MetricsAreWellFormed, ObjectsKeepSound, PredicatesKeepSound, SoundAgree, TermsAreWellFormed, TypesAreSound};
 
 /// A law: a raw term that is read as an object term is one, of the type that is due.
 pub fn read_terms_are_well_formed()
@@ -55,4 +55,10 @@ pub fn read_types_are_sound()
 /// A law: sound declarations agree with the parts of a problem that has them, where its further objects stand behind.
 pub fn sound_declarations_agree()
     ensures { SoundAgree }
+{}
+
+/// A law: forms of a domain and a problem whose names are names and whose numbers are literals, if they are read, are read
+/// as a well formed problem.
+pub fn read_forms_are_well_formed()
+    ensures { FormsAreWellFormed }
 {}
