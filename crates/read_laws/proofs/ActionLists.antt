@@ -1,5 +1,5 @@
 -- The actions that a domain lists have names that differ.
-use Rattle.std.proofs.Common.{◌≡◌, Bool, true, false, true≢false, not, if◌then◌else◌, List, [], ◌∷◌, ◌++◌, map, take, refl, ap, sym, ◌∙◌, subst, inl, inr}
+use Rattle.std.proofs.Common.{◌≡◌, Bool, true, false, true≢false, not, if◌then◌else◌, List, [], ◌∷◌, ◌++◌, map, take, refl, sym, ◌∙◌, subst, inl, inr}
 use Rattle.std.specs.Prelude.{⊤}
 use Rattle.up_text.specs.declared.name.Name.{Name}
 use Rattle.up_text.specs.Names.{IsName}
@@ -15,7 +15,7 @@ use Rattle.up_phrase.specs.declared.term.Setting.TheVariants.{Plain}
 use Rattle.up_phrase.specs.Conditions.{formula}
 use Rattle.up_phrase.specs.Declarations.{Declarations}
 use Rattle.up_phrase.specs.Named.{at}
-use Rattle.up_phrase.specs.Scopes.{Variables, entered_groups, typed}
+use Rattle.up_phrase.specs.Scopes.{entered_groups, typed}
 use Rattle.up_effect.specs.Actions.{action_of, with_parameters, action}
 use Rattle.up_effect.specs.Effects.{within, rows}
 use Rattle.up_check.specs.Domains.{actions, second}

@@ -1,12 +1,10 @@
 -- The problem that written forms are read as is well formed.
-use Rattle.std.proofs.Common.{◌≡◌, ℕ, ◌≤◌, true, List, [], ◌∷◌, ◌++◌, map, length, take, refl, ap, sym, ◌∙◌, subst, Option, arith}
+use Rattle.std.proofs.Common.{◌≡◌, ◌≤◌, true, List, [], ◌∷◌, ◌++◌, map, length, take, refl, ap, sym, ◌∙◌, subst, Option, arith}
 use Rattle.std.proofs.lemmas.List.{append-nil, length-append, length-map}
 use Rattle.up_text.specs.declared.name.Name.{Name}
 use Rattle.up_text.specs.Lists.{Every, Member}
-use Rattle.pddl_lex.specs.Verdicts.{behind, before, over}
-use Rattle.pddl_parse.specs.declared.raw.DomainForm.{DomainForm}
+use Rattle.pddl_lex.specs.Verdicts.{before, over}
 use Rattle.pddl_parse.specs.declared.raw.ProblemForm.{ProblemForm}
-use Rattle.up_tree.specs.declared.action.Action.{Action}
 use Rattle.up_tree.specs.declared.formula.Formula.{Formula}
 use Rattle.up_tree.specs.declared.problem.Constraint.{Constraint}
 use Rattle.up_tree.specs.declared.problem.Metric.{Metric}
@@ -14,14 +12,12 @@ use Rattle.up_tree.specs.declared.problem.Parts.{Parts}
 use Rattle.up_tree.specs.declared.term.Typed.{Typed}
 use Rattle.up_tree.specs.Objects.{chain}
 use Rattle.up_tree.specs.WellFormed.{AreDeclared, IsBelow, IsConstraint, IsFormula, IsType, IsWellFormed, OfGives, OnMetric, top_type}
-use Rattle.up_phrase.specs.declared.names.Signature.{Signature}
 use Rattle.up_phrase.specs.declared.term.Setting.TheVariants as setting
 use Rattle.up_phrase.specs.Conditions.{formula}
 use Rattle.up_phrase.specs.Declarations.{Declarations}
 use Rattle.up_phrase.specs.Lookups.{is_type}
 use Rattle.up_phrase.specs.Scopes.{typed}
 use Rattle.up_declare.specs.Declaring.{with_objects}
-use Rattle.up_check.specs.declared.lists.Initial.{Initial}
 use Rattle.up_check.specs.declared.problem.Stated.{Stated}
 use Rattle.up_check.specs.Constraints.{constraints}
 use Rattle.up_check.specs.Domains.{Known, domain_names}
@@ -31,9 +27,9 @@ use Rattle.up_check.specs.Metrics.{metric_of}
 use Rattle.up_check.specs.Problems.{wrong_domain, rules_and_metric, goal_on, stated, parts, in_names, objects_on, problem_names}
 use Rattle.read_laws.specs.Agreement.{IfFine, Agree}
 use Rattle.read_laws.specs.Initial.{IsInitial}
-use Rattle.read_laws.specs.Sound.{AreSound, HasDeclared, GivesType}
+use Rattle.read_laws.specs.Sound.{HasDeclared, GivesType}
 use Rattle.read_laws.specs.SoundTypes.{AreSoundTypes}
-use Rattle.read_laws.specs.Written.{IsWrittenDomain, IsWrittenProblem}
+use Rattle.read_laws.specs.Written.{IsWrittenProblem}
 use Rattle.read_laws.specs.Laws.{FormsAreWellFormed}
 use Rattle.read_laws.proofs.Verdicts.{fine_over, fine_two, fine_after, fine_behind, fine_and, fine_each, fine_is}
 use Rattle.read_laws.proofs.Members.{every_as, every_append, every_map, names_in}

@@ -1,5 +1,5 @@
 -- What is known of a domain whose form is written.
-use Rattle.std.proofs.Common.{◌≡◌, List, [], map, take, refl, sym, subst}
+use Rattle.std.proofs.Common.{List, [], map, take, refl, sym, subst}
 use Rattle.up_text.specs.declared.name.Name.{Name}
 use Rattle.up_text.specs.Lists.{Every}
 use Rattle.pddl_parse.specs.declared.raw.DomainForm.{DomainForm}
