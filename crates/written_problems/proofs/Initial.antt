@@ -211,15 +211,17 @@ module _ (names : Declarations) (p : Parts) (agree : Agree names p p.objects) wh
 
   next_number : EachNext number_key names (IsNumberFact p) IsRawNumberFact with_numbers
   next_number seen f is new _ (a_number place here ground so) =
-      let none = number_new f.function f.args ground so seen new in
-      (number_fits f is (with_numbers seen) place here ground so none,
-      rw (none, name_is f.function ground.name so.name, arguments_are f.args ground.args so.args) refl)
+      let none = number_new f.function f.args ground so seen new in (
+        number_fits f is (with_numbers seen) place here ground so none,
+        rw (none, name_is f.function ground.name so.name, arguments_are f.args ground.args so.args) refl,
+      )
 
   next_value : EachNext value_key names (IsValueFact p) IsRawValueFact with_values
   next_value seen f is new _ (an_object place ground _ so (at there)) =
-      let none = object_new f.function f.args ground so seen new in
-      (value_fits f is (with_values seen) place there ground so none,
-      rw (none, name_is f.function ground.name so.name, arguments_are f.args ground.args so.args) refl)
+      let none = object_new f.function f.args ground so seen new in (
+        value_fits f is (with_values seen) place there ground so none,
+        rw (none, name_is f.function ground.name so.name, arguments_are f.args ground.args so.args) refl,
+      )
 
   -- ---- the whole
 

@@ -92,10 +92,12 @@ module _ (p : Parts) (well : IsWellFormed p) (form : ProblemForm) (so : IsRawPro
 
   stated_read : stated names [] form ≡ fine whole
   stated_read =
-      rw (initial_read names p agree well form.init so.init,
-      conditions_are_named names p p.objects agree (declares_type p) all_written [] [] (λ v. refl) p.goal well.goal form.goal so.goal,
-      constraints_read names p agree (declares_type p) all_written p.constraints well.constraints form.constraints so.constraints,
-      metric_read names p agree p.metric well.metric form.metric so.metric) refl
+      rw (
+        initial_read names p agree well form.init so.init,
+        conditions_are_named names p p.objects agree (declares_type p) all_written [] [] (λ v. refl) p.goal well.goal form.goal so.goal,
+        constraints_read names p agree (declares_type p) all_written p.constraints well.constraints form.constraints so.constraints,
+        metric_read names p agree p.metric well.metric form.metric so.metric,
+      ) refl
 
   count : length (map entry constants) ≡ p.constants
   count = length-map constants entry ∙ length-take-le p.constants p.objects well.constants
@@ -105,8 +107,15 @@ module _ (p : Parts) (well : IsWellFormed p) (form : ProblemForm) (so : IsRawPro
 
   rebuilt : parts (length (map entry constants)) p.actions form names whole ≡ p
   rebuilt =
-      rw (name_is p.domain form.domain so.domain, name_is p.name form.name so.name, map_back p.types, count, objects_back,
-      predicates_back p.predicates, functions_back p.functions) refl
+      rw (
+        name_is p.domain form.domain so.domain,
+        name_is p.name form.name so.name,
+        map_back p.types,
+        count,
+        objects_back,
+        predicates_back p.predicates,
+        functions_back p.functions,
+      ) refl
 
   right_domain : wrong_domain p.domain form.domain ≡ []
   right_domain = rw ((bytes_decides form.domain.name p.domain).1 (name_is p.domain form.domain so.domain)) refl
