@@ -1,2 +1,6 @@
 pub mod Verdicts
 pub mod Typed
+pub mod Terms
+pub mod Conditions
+pub mod Effects
+pub mod Actions
