@@ -4,3 +4,8 @@ pub mod Terms
 pub mod Conditions
 pub mod Effects
 pub mod Actions
+pub mod Symbols
+pub mod Starts
+pub mod Constraints
+pub mod Sections
+pub mod Texts

@@ -1,0 +1,73 @@
+-- Initial states and metrics that are read are written.
+use Rattle.std.proofs.Common.{◌≡◌, Bool, List, [], ◌∷◌, map, drop}
+use Rattle.std.specs.Prelude.{⊤}
+use Rattle.up_text.specs.declared.place.Place.{Place}
+use Rattle.up_text.specs.Lists.{Every}
+use Rattle.pddl_lex.specs.declared.tree.TokenKind.{TokenKind}
+use Rattle.pddl_lex.specs.declared.tree.TokenKind.TheVariants as kind
+use Rattle.pddl_lex.specs.declared.tree.Sexp.{Sexp, Leaf, Group'}
+use Rattle.pddl_lex.specs.Verdicts.{all, over}
+use Rattle.pddl_parse.specs.declared.raw.RawInit.{RawInit}
+use Rattle.pddl_parse.specs.declared.raw.RawInit.TheVariants.{Atom, Absent, Value}
+use Rattle.pddl_parse.specs.declared.raw.RawValue.{RawValue}
+use Rattle.pddl_parse.specs.declared.raw.RawValue.TheVariants as «value»
+use Rattle.pddl_parse.specs.declared.raw.RawMetric.{RawMetric}
+use Rattle.pddl_parse.specs.declared.head.InitHead.{InitHead}
+use Rattle.pddl_parse.specs.declared.head.InitHead.TheVariants as head
+use Rattle.pddl_parse.specs.Shapes.{Read, kind_ident, extra, one, two}
+use Rattle.pddl_parse.specs.Terms.{term}
+use Rattle.pddl_parse.specs.Starts.{in_ground, ground, kind_value, initial_value, init_head, by_init_head, in_init, initial, minimizes, metric_of, metric}
+use Rattle.token_laws.specs.Literals.{IsLiteralKind, HasLiteralLeaves}
+use Rattle.read_laws.specs.Agreement.{IfFine}
+use Rattle.read_laws.specs.Literal.{HasLiterals}
+use Rattle.read_laws.specs.Initial.{IsWrittenValue, IsWrittenInit}
+use Rattle.form_laws.proofs.Verdicts.{fine_made, fine_followed, fine_all, fine_both, any_are, each_as, fine_group}
+use Rattle.form_laws.proofs.Conditions.{terms_have}
+
+object_is : (place : Place) (k : TokenKind) → IfFine (over value.Object (kind_ident place k)) IsWrittenValue
+object_is place k = fine_made IsWrittenValue value.Object (kind_ident place k) (λ it. tt)
+
+kind_value_is : (place : Place) (k : TokenKind) → IsLiteralKind k → IfFine (kind_value place k) IsWrittenValue
+kind_value_is place (kind.Number number) is = is
+kind_value_is place (kind.Word word) is = object_is place (kind.Word word)
+kind_value_is place kind.Open is = tt
+kind_value_is place kind.Close is = tt
+kind_value_is place (kind.Variable word) is = tt
+kind_value_is place (kind.Keyword word) is = tt
+kind_value_is place (kind.Sign sign) is = tt
+
+initial_value_is : (tree : Sexp) → HasLiteralLeaves tree → IfFine (initial_value tree) IsWrittenValue
+unfolding initial_value HasLiteralLeaves
+initial_value_is (Leaf token) have = kind_value_is token.place token.kind have
+initial_value_is (Group' place n row) have = tt
+
+by_head_is : (h : InitHead) (place : Place) (first : Sexp) (rest : List Sexp) → Every HasLiteralLeaves rest
+    → IfFine (by_init_head h place first rest) IsWrittenInit
+by_head_is head.Not place first rest have =
+    fine_followed IsWrittenInit (over Absent (one place (map ground rest))) (extra (drop 1 rest))
+    (fine_made IsWrittenInit Absent (one place (map ground rest)) (λ it. tt))
+by_head_is head.Same place first rest have =
+    fine_followed IsWrittenInit (two place (λ g v. Value place g v) (map ground rest) (map initial_value rest)) (extra (drop 2 rest))
+    (fine_both (λ g. ⊤) IsWrittenValue IsWrittenInit place (λ g v. Value place g v) (map ground rest) (map initial_value rest) (λ g v any is. is)
+    (any_are (map ground rest)) (each_as HasLiteralLeaves IsWrittenValue initial_value rest initial_value_is have))
+by_head_is head.Other place first rest have = fine_made IsWrittenInit Atom (in_ground place (first ∷ rest)) (λ it. tt)
+
+in_init_is : (place : Place) (items : List Sexp) → Every HasLiteralLeaves items → IfFine (in_init place items) IsWrittenInit
+in_init_is place [] have = tt
+in_init_is place (first ∷ rest) have = by_head_is (init_head first) place first rest have.1
+
+initial_is : (tree : Sexp) → HasLiteralLeaves tree → IfFine (initial tree) IsWrittenInit
+initial_is tree have = fine_group IsWrittenInit in_init in_init_is tree have
+
+pub initials_are : (trees : List Sexp) → Every HasLiteralLeaves trees → IfFine (all (map initial trees)) (Every IsWrittenInit)
+initials_are trees have = fine_all IsWrittenInit (map initial trees) (each_as HasLiteralLeaves IsWrittenInit initial trees initial_is have)
+
+-- the numbers of a metric are literals
+abbrev pub HasLiteralValue : RawMetric → Type 0
+HasLiteralValue it = HasLiterals it.value
+
+pub metric_is : (place : Place) (rest : List Sexp) → Every HasLiteralLeaves rest → IfFine (metric place rest) HasLiteralValue
+metric_is place rest have =
+    fine_followed HasLiteralValue (two place metric_of (map minimizes rest) (map term rest)) (extra (drop 2 rest))
+    (fine_both (λ b. ⊤) HasLiterals HasLiteralValue place metric_of (map minimizes rest) (map term rest) (λ b value any is. is) (any_are (map minimizes rest))
+    (terms_have rest have))

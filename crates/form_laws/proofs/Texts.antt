@@ -1,0 +1,159 @@
+-- The forms of texts that are read are written.
+use Rattle.std.proofs.Common.{◌≡◌, ℕ, Bool, true, false, List, [], ◌∷◌, ◌++◌, map, drop}
+use Rattle.std.specs.Prelude.{⊤, Option, Some, None, codes}
+use Rattle.up_text.specs.declared.place.Place.{Place}
+use Rattle.up_text.specs.Names.{IsName}
+use Rattle.up_text.specs.Lists.{Every}
+use Rattle.pddl_lex.specs.declared.tree.Sexp.{Sexp}
+use Rattle.pddl_lex.specs.Verdicts.{fine, faulty, over_two, behind, followed}
+use Rattle.pddl_parse.specs.declared.raw.Ident.{Ident}
+use Rattle.pddl_parse.specs.declared.raw.RawAction.{RawAction}
+use Rattle.pddl_parse.specs.declared.raw.RawFormula.{RawFormula}
+use Rattle.pddl_parse.specs.declared.raw.DomainForm.{DomainForm}
+use Rattle.pddl_parse.specs.declared.raw.ProblemForm.{ProblemForm}
+use Rattle.pddl_parse.specs.declared.section.DomainSection.{DomainSection}
+use Rattle.pddl_parse.specs.declared.section.DomainSection.TheVariants as in_domain
+use Rattle.pddl_parse.specs.declared.section.ProblemSection.{ProblemSection}
+use Rattle.pddl_parse.specs.declared.section.ProblemSection.TheVariants as in_problem
+use Rattle.pddl_parse.specs.declared.problem.ProblemParts.{ProblemParts}
+use Rattle.pddl_parse.specs.Shapes.{Read, ident, extra}
+use Rattle.pddl_parse.specs.Brackets.{short}
+use Rattle.pddl_parse.specs.Sections.{domain_sections, problem_sections}
+use Rattle.pddl_parse.specs.Texts.{unlike, in_title, title, only, bare_domain, with_section, with_sections, in_domain_text, domain_text, domain, bare_problem, put_section, put_sections, complete, whole, lacks_section, in_problem_text, problem_text, problem}
+use Rattle.token_laws.specs.Literals.{HasLiteralLeaves}
+use Rattle.read_laws.specs.Agreement.{IfFine}
+use Rattle.read_laws.specs.Literal.{HaveNames, IsWritten, IsWrittenAction, IsWrittenConstraint, IsWrittenMetric}
+use Rattle.read_laws.specs.Initial.{IsWrittenInit}
+use Rattle.read_laws.specs.Written.{IsWrittenDomain, IsWrittenProblem}
+use Rattle.form_laws.specs.Laws.{DomainsAreWritten, ProblemsAreWritten}
+use Rattle.form_laws.proofs.Verdicts.{fine_two, fine_any, fine_behind, fine_followed, fine_bracket, fine_group, every_behind}
+use Rattle.form_laws.proofs.Typed.{IsNamed, ident_is}
+use Rattle.form_laws.proofs.Constraints.{and_is}
+use Rattle.form_laws.proofs.Sections.{InDomain, domain_sections_are, InProblem, problem_sections_are}
+
+in_title_is : (word : List ℕ) (place : Place) (items : List Sexp) → IfFine (in_title word place items) IsNamed
+in_title_is word place [] = tt
+in_title_is word place (head ∷ []) = tt
+in_title_is word place (head ∷ name ∷ others) =
+    fine_behind IsNamed (unlike word head) (followed (ident name) (extra others)) (fine_followed IsNamed (ident name) (extra others) (ident_is name))
+
+title_is : (word : List ℕ) (tree : Sexp) → IfFine (title word tree) IsNamed
+title_is word tree = fine_bracket IsNamed (in_title word) (in_title_is word) tree
+
+only_is : {A : Type 0} (P : A → Type 0) (f : Sexp → Read A) (trees : List Sexp) → ((tree : Sexp) → HasLiteralLeaves tree → IfFine (f tree) P)
+    → Every HasLiteralLeaves trees → IfFine (only f trees) P
+only_is P f [] h have = tt
+only_is P f (tree ∷ others) h have = fine_followed P (f tree) (extra others) (h tree have.0)
+
+-- ---- domains
+
+bare_domain_is : (name : Ident) → IsWrittenDomain (bare_domain name)
+bare_domain_is name =
+    record { types = tt; parents = tt; constants = tt; predicates = tt; functions = tt; action_names = tt; actions = tt; constraints = and_is [] tt }
+
+with_section_is : (form : DomainForm) (s : DomainSection) → IsWrittenDomain form → InDomain s → IsWrittenDomain (with_section form s)
+with_section_is form in_domain.Requirements is so = is
+with_section_is form (in_domain.Types types) is so =
+    record { types = so.0; parents = so.1; constants = is.constants; predicates = is.predicates; functions = is.functions; action_names = is.action_names; actions = is.actions; constraints = is.constraints }
+with_section_is form (in_domain.Constants constants) is so =
+    record { types = is.types; parents = is.parents; constants = so.0; predicates = is.predicates; functions = is.functions; action_names = is.action_names; actions = is.actions; constraints = is.constraints }
+with_section_is form (in_domain.Predicates predicates) is so =
+    record { types = is.types; parents = is.parents; constants = is.constants; predicates = so; functions = is.functions; action_names = is.action_names; actions = is.actions; constraints = is.constraints }
+with_section_is form (in_domain.Functions functions) is so =
+    record { types = is.types; parents = is.parents; constants = is.constants; predicates = is.predicates; functions = so; action_names = is.action_names; actions = is.actions; constraints = is.constraints }
+with_section_is form (in_domain.Action action) is so =
+    record {
+      types = is.types; parents = is.parents; constants = is.constants; predicates = is.predicates; functions = is.functions;
+      action_names = every_behind (λ (raw : RawAction). IsName raw.name.name) form.actions action is.action_names so.0;
+      actions = every_behind IsWrittenAction form.actions action is.actions so.1; constraints = is.constraints }
+with_section_is form (in_domain.Constraints constraints) is so =
+    record { types = is.types; parents = is.parents; constants = is.constants; predicates = is.predicates; functions = is.functions; action_names = is.action_names; actions = is.actions; constraints = so }
+
+with_sections_is : (form : DomainForm) (ss : List DomainSection) → IsWrittenDomain form → Every InDomain ss → IsWrittenDomain (with_sections form ss)
+with_sections_is form [] is are = is
+with_sections_is form (s ∷ ss) is are = with_sections_is (with_section form s) ss (with_section_is form s is are.0) are.1
+
+in_domain_is : (place : Place) (items : List Sexp) → Every HasLiteralLeaves items → IfFine (in_domain_text place items) IsWrittenDomain
+in_domain_is place [] have = tt
+in_domain_is place (head ∷ []) have = tt
+in_domain_is place (head ∷ second ∷ rest) have =
+    fine_behind IsWrittenDomain (unlike (codes "define") head)
+    (over_two (λ name ss. with_sections (bare_domain name) ss) (title (codes "domain") second) (domain_sections [] rest))
+    (fine_two (λ name. ⊤) (Every InDomain) IsWrittenDomain (λ name ss. with_sections (bare_domain name) ss) (title (codes "domain") second) (domain_sections [] rest)
+    (λ name ss any are. with_sections_is (bare_domain name) ss (bare_domain_is name) are) (fine_any (title (codes "domain") second))
+    (domain_sections_are [] rest have.1.1))
+
+domain_text_is : (tree : Sexp) → HasLiteralLeaves tree → IfFine (domain_text tree) IsWrittenDomain
+domain_text_is tree have = fine_group IsWrittenDomain in_domain_text in_domain_is tree have
+
+pub domains_are_written : DomainsAreWritten
+domains_are_written trees have = only_is IsWrittenDomain domain_text trees domain_text_is have
+
+-- ---- problems
+
+abbrev IsNamedIf : Option Ident → Type 0
+IsNamedIf None = ⊤
+IsNamedIf (Some name) = IsNamed name
+
+abbrev IsWrittenIf : Option RawFormula → Type 0
+IsWrittenIf None = ⊤
+IsWrittenIf (Some f) = IsWritten f
+
+record AreWrittenParts (parts : ProblemParts) : Type 0 where
+  name : IsName parts.name.name
+  domain : IsNamedIf parts.domain
+  objects : HaveNames parts.objects
+  init : Every IsWrittenInit parts.init
+  goal : IsWrittenIf parts.goal
+  constraints : IsWrittenConstraint parts.constraints
+  metric : IsWrittenMetric parts.metric
+
+bare_problem_is : (name : Ident) → IsNamed name → AreWrittenParts (bare_problem name)
+bare_problem_is name named = record { name = named; domain = tt; objects = tt; init = tt; goal = tt; constraints = and_is [] tt; metric = tt }
+
+put_section_is : (parts : ProblemParts) (s : ProblemSection) → AreWrittenParts parts → InProblem s → AreWrittenParts (put_section parts s)
+put_section_is parts in_problem.Requirements are so = are
+put_section_is parts (in_problem.Domain name) are so =
+    record { name = are.name; domain = so; objects = are.objects; init = are.init; goal = are.goal; constraints = are.constraints; metric = are.metric }
+put_section_is parts (in_problem.Objects objects) are so =
+    record { name = are.name; domain = are.domain; objects = so.0; init = are.init; goal = are.goal; constraints = are.constraints; metric = are.metric }
+put_section_is parts (in_problem.Init init) are so =
+    record { name = are.name; domain = are.domain; objects = are.objects; init = so; goal = are.goal; constraints = are.constraints; metric = are.metric }
+put_section_is parts (in_problem.Goal goal) are so =
+    record { name = are.name; domain = are.domain; objects = are.objects; init = are.init; goal = so; constraints = are.constraints; metric = are.metric }
+put_section_is parts (in_problem.Constraints constraints) are so =
+    record { name = are.name; domain = are.domain; objects = are.objects; init = are.init; goal = are.goal; constraints = so; metric = are.metric }
+put_section_is parts (in_problem.Metric metric) are so =
+    record { name = are.name; domain = are.domain; objects = are.objects; init = are.init; goal = are.goal; constraints = are.constraints; metric = so }
+
+put_sections_is : (parts : ProblemParts) (ss : List ProblemSection) → AreWrittenParts parts → Every InProblem ss → AreWrittenParts (put_sections parts ss)
+put_sections_is parts [] are all = are
+put_sections_is parts (s ∷ ss) are all = put_sections_is (put_section parts s) ss (put_section_is parts s are all.0) all.1
+
+complete_is : (place : Place) (name : Option Ident) (goal : Option RawFormula) (parts : ProblemParts) → IsNamedIf name → IsWrittenIf goal
+    → AreWrittenParts parts → IfFine (complete place name goal parts) IsWrittenProblem
+complete_is place None goal parts named is are = tt
+complete_is place (Some name) None parts named is are = tt
+complete_is place (Some name) (Some goal) parts named is are =
+    record { name = are.name; domain = named; objects = are.objects; init = are.init; goal = is; constraints = are.constraints; metric = are.metric }
+
+whole_is : (place : Place) (v : Read ProblemParts) → IfFine v AreWrittenParts → IfFine (whole place v) IsWrittenProblem
+whole_is place (fine parts) are = complete_is place parts.domain parts.goal parts are.domain are.goal are
+whole_is place (faulty f fs) are = tt
+
+in_problem_is : (place : Place) (items : List Sexp) → Every HasLiteralLeaves items → IfFine (in_problem_text place items) IsWrittenProblem
+in_problem_is place [] have = tt
+in_problem_is place (head ∷ []) have = tt
+in_problem_is place (head ∷ second ∷ rest) have =
+    let read = over_two (λ name ss. put_sections (bare_problem name) ss) (title (codes "problem") second) (problem_sections [] rest) in
+    fine_behind IsWrittenProblem (short (lacks_section rest) place (head ∷ second ∷ rest)) (behind (unlike (codes "define") head) (whole place read))
+    (fine_behind IsWrittenProblem (unlike (codes "define") head) (whole place read) (whole_is place read
+    (fine_two IsNamed (Every InProblem) AreWrittenParts (λ name ss. put_sections (bare_problem name) ss) (title (codes "problem") second) (problem_sections [] rest)
+    (λ name ss named are. put_sections_is (bare_problem name) ss (bare_problem_is name named) are) (title_is (codes "problem") second)
+    (problem_sections_are [] rest have.1.1))))
+
+problem_text_is : (tree : Sexp) → HasLiteralLeaves tree → IfFine (problem_text tree) IsWrittenProblem
+problem_text_is tree have = fine_group IsWrittenProblem in_problem_text in_problem_is tree have
+
+pub problems_are_written : ProblemsAreWritten
+problems_are_written trees have = only_is IsWrittenProblem problem_text trees problem_text_is have
