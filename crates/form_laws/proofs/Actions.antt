@@ -1,6 +1,5 @@
 -- Actions that are read are written.
-use Rattle.std.proofs.Common.{◌≡◌, Bool, List, [], ◌∷◌}
-use Rattle.std.specs.Prelude.{⊤}
+use Rattle.std.proofs.Common.{List, [], ◌∷◌}
 use Rattle.up_text.specs.declared.place.Place.{Place}
 use Rattle.up_text.specs.Names.{IsName}
 use Rattle.up_text.specs.Lists.{Every}
@@ -8,8 +7,6 @@ use Rattle.pddl_lex.specs.declared.tree.Sexp.{Sexp}
 use Rattle.pddl_lex.specs.Verdicts.{fine, faulty, over, over_two}
 use Rattle.pddl_parse.specs.declared.raw.Ident.{Ident}
 use Rattle.pddl_parse.specs.declared.raw.RawAction.{RawAction}
-use Rattle.pddl_parse.specs.declared.raw.RawFormula as formula
-use Rattle.pddl_parse.specs.declared.raw.RawEffect as effect
 use Rattle.pddl_parse.specs.declared.action.ActionKey.{ActionKey}
 use Rattle.pddl_parse.specs.declared.action.ActionKey.TheVariants as key
 use Rattle.pddl_parse.specs.declared.action.ActionKeys.{ActionKeys}

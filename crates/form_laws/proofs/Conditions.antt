@@ -1,5 +1,5 @@
 -- Conditions that are read are written.
-use Rattle.std.proofs.Common.{◌≡◌, Bool, List, [], ◌∷◌, map, drop, sym, subst}
+use Rattle.std.proofs.Common.{List, [], ◌∷◌, map, drop, sym, subst}
 use Rattle.std.specs.Prelude.{⊤}
 use Rattle.up_text.specs.declared.place.Place.{Place}
 use Rattle.up_text.specs.Lists.{Every}
@@ -9,7 +9,7 @@ use Rattle.pddl_parse.specs.declared.raw.Ident.{Ident}
 use Rattle.pddl_parse.specs.declared.raw.Relation.{Relation}
 use Rattle.pddl_parse.specs.declared.raw.RawTerm.{RawTerm}
 use Rattle.pddl_parse.specs.declared.raw.RawGroup.{RawGroup}
-use Rattle.pddl_parse.specs.declared.raw.RawFormula.{RawFormula, And, Or, Not, Imply, Exists, Forall, Atom, Compare, Row_of-RawFormula, end_of-RawFormula, more_of-RawFormula, items-the_row-RawFormula, items_hidden-the_row-RawFormula-0}
+use Rattle.pddl_parse.specs.declared.raw.RawFormula.{RawFormula, And, Or, Not, Imply, Atom, Compare, Row_of-RawFormula, end_of-RawFormula, more_of-RawFormula, items-the_row-RawFormula, items_hidden-the_row-RawFormula-0}
 use Rattle.pddl_parse.specs.declared.raw.RawFormula.TheBlock.{hidden-the_row-RawFormula-0}
 use Rattle.pddl_parse.specs.declared.head.Head.{Head}
 use Rattle.pddl_parse.specs.declared.head.Head.TheVariants as head
@@ -19,12 +19,12 @@ use Rattle.pddl_parse.specs.Actions.{condition}
 use Rattle.pddl_parse.specs.Shapes.{Read, ident, extra, one, two}
 use Rattle.pddl_parse.specs.Terms.{term}
 use Rattle.pddl_parse.specs.TypedLists.{variables}
-use Rattle.pddl_parse.specs.Formulas.{head_of, negation, implication, quantify, quantified, comparison, by_head, in_formula, formula, formulas}
+use Rattle.pddl_parse.specs.Formulas.{head_of, quantify, by_head, in_formula, formula, formulas}
 use Rattle.up_phrase.specs.Nodes.{built}
 use Rattle.token_laws.specs.Literals.{HasLiteralLeaves, HaveLiteralLeaves}
 use Rattle.read_laws.specs.Agreement.{IfFine}
-use Rattle.read_laws.specs.Literal.{HasLiterals, HaveNames, IsWritten, AreWritten}
-use Rattle.form_laws.proofs.Verdicts.{every_rest, fine_over, fine_two, fine_any, fine_followed, fine_all, fine_one, fine_both, fine_or_empty, any_are, AreFine, each_is, each_as, items_have}
+use Rattle.read_laws.specs.Literal.{HasLiterals, IsWritten, AreWritten}
+use Rattle.form_laws.proofs.Verdicts.{every_rest, fine_over, fine_two, fine_any, fine_followed, fine_all, fine_one, fine_both, fine_or_empty, AreFine, each_is, each_as, items_have}
 use Rattle.form_laws.proofs.Typed.{AreGroups, variables_are}
 use Rattle.form_laws.proofs.Terms.{term_has}
 

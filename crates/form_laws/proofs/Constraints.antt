@@ -1,5 +1,5 @@
 -- Constraints that are read are written.
-use Rattle.std.proofs.Common.{◌≡◌, Bool, List, [], ◌∷◌, map, drop, sym, subst}
+use Rattle.std.proofs.Common.{List, [], ◌∷◌, map, drop, sym, subst}
 use Rattle.up_text.specs.declared.place.Place.{Place}
 use Rattle.up_text.specs.Lists.{Every}
 use Rattle.pddl_lex.specs.declared.tree.Sexp.{Sexp, Leaf, Group', Row_of-Sexp, end_of-Sexp, more_of-Sexp, items-the_row-Sexp}

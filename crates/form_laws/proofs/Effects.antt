@@ -1,5 +1,5 @@
 -- Effects that are read are written.
-use Rattle.std.proofs.Common.{◌≡◌, Bool, List, [], ◌∷◌, map, drop, sym, subst}
+use Rattle.std.proofs.Common.{List, [], ◌∷◌, map, drop, sym, subst}
 use Rattle.std.specs.Prelude.{⊤}
 use Rattle.up_text.specs.declared.place.Place.{Place}
 use Rattle.up_text.specs.Lists.{Every}

@@ -1,11 +1,10 @@
 -- Sections that are read are written.
-use Rattle.std.proofs.Common.{◌≡◌, ℕ, Bool, ◌&&◌, List, [], ◌∷◌, ◌++◌, map, drop}
+use Rattle.std.proofs.Common.{ℕ, ◌&&◌, List, [], ◌∷◌, ◌++◌, map, drop}
 use Rattle.std.specs.Prelude.{⊤, Option, Some, None}
 use Rattle.up_text.specs.declared.place.Place.{Place}
 use Rattle.up_text.specs.Lists.{Every}
 use Rattle.pddl_lex.specs.declared.tree.Sexp.{Sexp}
-use Rattle.pddl_lex.specs.Verdicts.{faulty, all, over}
-use Rattle.pddl_parse.specs.declared.raw.RawFormula.{RawFormula}
+use Rattle.pddl_lex.specs.Verdicts.{faulty, all}
 use Rattle.pddl_parse.specs.declared.section.DomainKey.{DomainKey}
 use Rattle.pddl_parse.specs.declared.section.DomainKey.TheVariants as domain
 use Rattle.pddl_parse.specs.declared.section.DomainSection.{DomainSection}
@@ -26,10 +25,10 @@ use Rattle.pddl_parse.specs.Starts.{initial, metric}
 use Rattle.pddl_parse.specs.Sections.{keyword_of, refusal, requirements, alone, domain_key, stands_once, domain_body, domain_known, domain_named, in_domain_section, domain_section, domain_sections, problem_key, problem_body, problem_known, problem_named, in_problem_section, problem_section, problem_sections}
 use Rattle.token_laws.specs.Literals.{HasLiteralLeaves}
 use Rattle.read_laws.specs.Agreement.{IfFine}
-use Rattle.read_laws.specs.Literal.{HaveNames, IsWritten, IsWrittenConstraint}
+use Rattle.read_laws.specs.Literal.{IsWritten, IsWrittenConstraint}
 use Rattle.read_laws.specs.Initial.{IsWrittenInit}
 use Rattle.read_laws.specs.Sound.{AreNamed, AreNamedFunctions}
-use Rattle.form_laws.proofs.Verdicts.{fine_over, fine_two, fine_behind, fine_followed, fine_if, fine_one, each_is, each_as, fine_group}
+use Rattle.form_laws.proofs.Verdicts.{fine_over, fine_two, fine_behind, fine_followed, fine_if, fine_one, each_as, fine_group}
 use Rattle.form_laws.proofs.Typed.{IsNamed, ident_is, AreGroups, typed_list_is}
 use Rattle.form_laws.proofs.Conditions.{condition_is}
 use Rattle.form_laws.proofs.Actions.{IsRead, action_is}

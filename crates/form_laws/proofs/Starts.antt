@@ -1,5 +1,5 @@
 -- Initial states and metrics that are read are written.
-use Rattle.std.proofs.Common.{◌≡◌, Bool, List, [], ◌∷◌, map, drop}
+use Rattle.std.proofs.Common.{List, [], ◌∷◌, map, drop}
 use Rattle.std.specs.Prelude.{⊤}
 use Rattle.up_text.specs.declared.place.Place.{Place}
 use Rattle.up_text.specs.Lists.{Every}
@@ -7,14 +7,12 @@ use Rattle.pddl_lex.specs.declared.tree.TokenKind.{TokenKind}
 use Rattle.pddl_lex.specs.declared.tree.TokenKind.TheVariants as kind
 use Rattle.pddl_lex.specs.declared.tree.Sexp.{Sexp, Leaf, Group'}
 use Rattle.pddl_lex.specs.Verdicts.{all, over}
-use Rattle.pddl_parse.specs.declared.raw.RawInit.{RawInit}
 use Rattle.pddl_parse.specs.declared.raw.RawInit.TheVariants.{Atom, Absent, Value}
-use Rattle.pddl_parse.specs.declared.raw.RawValue.{RawValue}
 use Rattle.pddl_parse.specs.declared.raw.RawValue.TheVariants as «value»
 use Rattle.pddl_parse.specs.declared.raw.RawMetric.{RawMetric}
 use Rattle.pddl_parse.specs.declared.head.InitHead.{InitHead}
 use Rattle.pddl_parse.specs.declared.head.InitHead.TheVariants as head
-use Rattle.pddl_parse.specs.Shapes.{Read, kind_ident, extra, one, two}
+use Rattle.pddl_parse.specs.Shapes.{kind_ident, extra, one, two}
 use Rattle.pddl_parse.specs.Terms.{term}
 use Rattle.pddl_parse.specs.Starts.{in_ground, ground, kind_value, initial_value, init_head, by_init_head, in_init, initial, minimizes, metric_of, metric}
 use Rattle.token_laws.specs.Literals.{IsLiteralKind, HasLiteralLeaves}

@@ -1,15 +1,11 @@
 -- Predicates and functions that are read have names that may be declared.
-use Rattle.std.proofs.Common.{◌≡◌, Bool, true, false, List, [], ◌∷◌, ◌++◌}
+use Rattle.std.proofs.Common.{Bool, true, false, List, [], ◌∷◌, ◌++◌}
 use Rattle.std.specs.Prelude.{⊤}
 use Rattle.up_text.specs.declared.place.Place.{Place}
 use Rattle.up_text.specs.Names.{IsName}
-use Rattle.up_text.specs.Lists.{Every}
 use Rattle.pddl_lex.specs.declared.tree.Sexp.{Sexp}
 use Rattle.pddl_lex.specs.Verdicts.{fine, faulty, over_two}
-use Rattle.pddl_parse.specs.declared.raw.RawGives.{RawGives}
-use Rattle.pddl_parse.specs.declared.raw.RawGroup.{RawGroup}
 use Rattle.pddl_parse.specs.declared.raw.RawSymbol.{RawSymbol}
-use Rattle.pddl_parse.specs.declared.raw.RawFunctions.{RawFunctions}
 use Rattle.pddl_parse.specs.declared.typed.Item.TheVariants as item
 use Rattle.pddl_parse.specs.Brackets.{short}
 use Rattle.pddl_parse.specs.Shapes.{Read, lacking, ident}

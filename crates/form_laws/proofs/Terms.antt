@@ -1,5 +1,5 @@
 -- The numbers of terms that are read are literals.
-use Rattle.std.proofs.Common.{◌≡◌, Bool, List, [], ◌∷◌, length, take, drop, Option, Some, None, sym, subst}
+use Rattle.std.proofs.Common.{List, [], ◌∷◌, length, take, drop, Option, Some, None, sym, subst}
 use Rattle.std.specs.Prelude.{⊤, nat_lt}
 use Rattle.up_text.specs.declared.place.Place.{Place}
 use Rattle.up_text.specs.Lists.{Every}
@@ -12,11 +12,11 @@ use Rattle.pddl_parse.specs.declared.raw.Operator.{Operator}
 use Rattle.pddl_parse.specs.declared.raw.RawTerm.{RawTerm, Name, Variable, Call, Arithmetic, Row_of-RawTerm, end_of-RawTerm, more_of-RawTerm, items-the_row-RawTerm, items_hidden-the_row-RawTerm-0}
 use Rattle.pddl_parse.specs.declared.raw.RawTerm.TheBlock.{hidden-the_row-RawTerm-0}
 use Rattle.pddl_parse.specs.Shapes.{Read, kind_ident, kind_variable, ident, extra, lacking}
-use Rattle.pddl_parse.specs.Terms.{kind_term, operator_of, least, most, arithmetic, by_operator, in_term, term, terms}
+use Rattle.pddl_parse.specs.Terms.{kind_term, operator_of, least, most, by_operator, in_term, term, terms}
 use Rattle.token_laws.specs.Literals.{IsLiteralKind, HasLiteralLeaves, HaveLiteralLeaves}
 use Rattle.read_laws.specs.Agreement.{IfFine}
 use Rattle.read_laws.specs.Literal.{HasLiterals, HaveLiterals}
-use Rattle.form_laws.proofs.Verdicts.{every_take, every_rest, fine_over, fine_made, fine_two, fine_any, fine_behind, fine_followed, fine_all, AreFine, each_as}
+use Rattle.form_laws.proofs.Verdicts.{every_take, every_rest, fine_over, fine_made, fine_two, fine_any, fine_behind, fine_followed, fine_all, AreFine}
 
 mutual
   unfolding HasLiterals HaveLiterals

@@ -1,5 +1,5 @@
 -- The forms of texts that are read are written.
-use Rattle.std.proofs.Common.{◌≡◌, ℕ, Bool, true, false, List, [], ◌∷◌, ◌++◌, map, drop}
+use Rattle.std.proofs.Common.{ℕ, List, [], ◌∷◌}
 use Rattle.std.specs.Prelude.{⊤, Option, Some, None, codes}
 use Rattle.up_text.specs.declared.place.Place.{Place}
 use Rattle.up_text.specs.Names.{IsName}
@@ -10,7 +10,6 @@ use Rattle.pddl_parse.specs.declared.raw.Ident.{Ident}
 use Rattle.pddl_parse.specs.declared.raw.RawAction.{RawAction}
 use Rattle.pddl_parse.specs.declared.raw.RawFormula.{RawFormula}
 use Rattle.pddl_parse.specs.declared.raw.DomainForm.{DomainForm}
-use Rattle.pddl_parse.specs.declared.raw.ProblemForm.{ProblemForm}
 use Rattle.pddl_parse.specs.declared.section.DomainSection.{DomainSection}
 use Rattle.pddl_parse.specs.declared.section.DomainSection.TheVariants as in_domain
 use Rattle.pddl_parse.specs.declared.section.ProblemSection.{ProblemSection}
@@ -19,7 +18,7 @@ use Rattle.pddl_parse.specs.declared.problem.ProblemParts.{ProblemParts}
 use Rattle.pddl_parse.specs.Shapes.{Read, ident, extra}
 use Rattle.pddl_parse.specs.Brackets.{short}
 use Rattle.pddl_parse.specs.Sections.{domain_sections, problem_sections}
-use Rattle.pddl_parse.specs.Texts.{unlike, in_title, title, only, bare_domain, with_section, with_sections, in_domain_text, domain_text, domain, bare_problem, put_section, put_sections, complete, whole, lacks_section, in_problem_text, problem_text, problem}
+use Rattle.pddl_parse.specs.Texts.{unlike, in_title, title, only, bare_domain, with_section, with_sections, in_domain_text, domain_text, bare_problem, put_section, put_sections, complete, whole, lacks_section, in_problem_text, problem_text}
 use Rattle.token_laws.specs.Literals.{HasLiteralLeaves}
 use Rattle.read_laws.specs.Agreement.{IfFine}
 use Rattle.read_laws.specs.Literal.{HaveNames, IsWritten, IsWrittenAction, IsWrittenConstraint, IsWrittenMetric}
@@ -63,9 +62,15 @@ with_section_is form (in_domain.Functions functions) is so =
     record { types = is.types; parents = is.parents; constants = is.constants; predicates = is.predicates; functions = so; action_names = is.action_names; actions = is.actions; constraints = is.constraints }
 with_section_is form (in_domain.Action action) is so =
     record {
-      types = is.types; parents = is.parents; constants = is.constants; predicates = is.predicates; functions = is.functions;
+      types = is.types;
+      parents = is.parents;
+      constants = is.constants;
+      predicates = is.predicates;
+      functions = is.functions;
       action_names = every_behind (λ (raw : RawAction). IsName raw.name.name) form.actions action is.action_names so.0;
-      actions = every_behind IsWrittenAction form.actions action is.actions so.1; constraints = is.constraints }
+      actions = every_behind IsWrittenAction form.actions action is.actions so.1;
+      constraints = is.constraints;
+    }
 with_section_is form (in_domain.Constraints constraints) is so =
     record { types = is.types; parents = is.parents; constants = is.constants; predicates = is.predicates; functions = is.functions; action_names = is.action_names; actions = is.actions; constraints = so }
 

@@ -1,5 +1,5 @@
 -- What holds of parts of bracket trees that are read holds of what is read of the trees.
-use Rattle.std.proofs.Common.{◌≡◌, ℕ, zero, suc, Bool, true, false, if◌then◌else◌, List, [], ◌∷◌, ◌++◌, map, take, drop}
+use Rattle.std.proofs.Common.{ℕ, zero, suc, Bool, true, false, if◌then◌else◌, List, [], ◌∷◌, ◌++◌, map, take, drop}
 use Rattle.std.specs.Prelude.{⊤}
 use Rattle.up_text.specs.declared.place.Place.{Place}
 use Rattle.up_text.specs.Lists.{Every}
