@@ -12,9 +12,10 @@ use std::env::{self, Args};
 use std::io;
 use std::io::ErrorKind;
 use std::process::ExitCode;
+use up_run::run;
 use up_store::{FolderStore, Sink, StdSink, Store, Word};
 use up_text::Memory;
-use up_top::{Status, run};
+use up_top::Status;
 
 // The words that these are.
 fn words_of(alloc: Global, texts: Args) -> Result<Vec<Word>, Memory>

@@ -1,0 +1,6 @@
+//! The run of the program, with what a compile that is done promises.
+#![tactic(auto)]
+
+mod top;
+
+pub use top::run;
