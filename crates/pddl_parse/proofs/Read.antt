@@ -40,12 +40,12 @@ pub ident_no_operator : (tree : Sexp) (it : Ident) → IsIdent tree it → opera
 unfolding operator_of
 ident_no_operator _ _ (ident word name place is) = refl
 
-not_reserved : {A : Type 0} (s r : Bool) (x y : A) → (if s && not r then Some x else None) ≡ Some y → r ≡ false
+pub not_reserved : {A : Type 0} (s r : Bool) (x y : A) → (if s && not r then Some x else None) ≡ Some y → r ≡ false
 not_reserved true true x y e = cc
 not_reserved true false x y e = refl
 not_reserved false r x y e = cc
 
-none_of : (a b c d e f g : Bool) → (a || (b || (c || (d || (e || (f || g)))))) ≡ false
+pub none_of : (a b c d e f g : Bool) → (a || (b || (c || (d || (e || (f || g)))))) ≡ false
     → (if a then head.And else if b then head.Or else if c then head.Not else if d then head.Imply else
     if e then head.Quantifier quantifier.Exists else if f then head.Quantifier quantifier.Forall else head.Other) ≡ head.Other
 none_of true b c d e f g h = cc
@@ -56,7 +56,7 @@ none_of false false false false true f g h = cc
 none_of false false false false false true g h = cc
 none_of false false false false false false g h = refl
 
-word_other : (word : List ℕ) → is_reserved word ≡ false → word_head word ≡ head.Other
+pub word_other : (word : List ℕ) → is_reserved word ≡ false → word_head word ≡ head.Other
 unfolding reserved_words
 word_other word free = none_of (bytes_eq word (codes "and")) (bytes_eq word (codes "or")) (bytes_eq word (codes "not"))
     (bytes_eq word (codes "imply")) (bytes_eq word (codes "exists")) (bytes_eq word (codes "forall")) _ free
@@ -77,7 +77,7 @@ fits _ _ _ negative = record { known = refl; enough = refl; count = refl }
 fits _ _ _ difference = record { known = refl; enough = refl; count = refl }
 fits _ _ _ quotient = record { known = refl; enough = refl; count = refl }
 
-relation_head : (sign : Sign) (r : Relation) → IsRelation sign r → sign_head sign ≡ head.Compare r
+pub relation_head : (sign : Sign) (r : Relation) → IsRelation sign r → sign_head sign ≡ head.Compare r
 relation_head _ _ less = refl
 relation_head _ _ less_equal = refl
 relation_head _ _ same = refl
@@ -88,7 +88,7 @@ take_whole : {A : Type 0} (xs : List A) → take (length xs) xs ≡ xs
 take_whole [] = refl
 take_whole (x ∷ xs) = ap (λ ys. x ∷ ys) (take_whole xs)
 
-drop_whole : {A : Type 0} (xs : List A) → drop (length xs) xs ≡ []
+pub drop_whole : {A : Type 0} (xs : List A) → drop (length xs) xs ≡ []
 drop_whole [] = refl
 drop_whole (x ∷ xs) = drop_whole xs
 
@@ -97,11 +97,11 @@ arithmetic_read : (sign : Sign) (op : Operator) (place : Place) (trees : List Se
 arithmetic_read sign op place trees ts fit read =
     arithmetic_fine op place trees ts (rw fit.enough refl) (rw (fit.count, take_whole trees) read) (rw (fit.count, drop_whole trees) refl)
 
-name_read : (tree : Sexp) (it : Ident) → IsIdent tree it → term tree ≡ fine (Name it)
+pub name_read : (tree : Sexp) (it : Ident) → IsIdent tree it → term tree ≡ fine (Name it)
 unfolding term
 name_read _ _ (ident word name place is) = rw is refl
 
-variable_read : (tree : Sexp) (it : Ident) → IsVariable tree it → term tree ≡ fine (Variable it)
+pub variable_read : (tree : Sexp) (it : Ident) → IsVariable tree it → term tree ≡ fine (Variable it)
 unfolding term
 variable_read _ _ (variable word name place is) = rw is refl
 
@@ -136,7 +136,7 @@ unfolding is_minus
 minus_on place at tree rest [] some = absurd (some refl)
 minus_on place at tree rest (name ∷ names) some = refl
 
-last_on : (place : Place) (names : List Ident) → names ≢ [] → last_group place names false ≡ fine (record { names = names; of = None } ∷ [])
+pub last_on : (place : Place) (names : List Ident) → names ≢ [] → last_group place names false ≡ fine (record { names = names; of = None } ∷ [])
 last_on place [] some = absurd (some refl)
 last_on place (name ∷ names) some = refl
 
@@ -152,11 +152,11 @@ groups_read place _ _ (typed trees names at tree of rest groups some are is othe
       groups_read place rest groups others,
     ) refl
 
-ends_through : (trees : List Sexp) (ends : Bool) (tree : Sexp) (rest : List Sexp) → ends_after ends (trees ++ tree ∷ rest) ≡ ends_after (is_minus tree) rest
+pub ends_through : (trees : List Sexp) (ends : Bool) (tree : Sexp) (rest : List Sexp) → ends_after ends (trees ++ tree ∷ rest) ≡ ends_after (is_minus tree) rest
 ends_through [] ends tree rest = refl
 ends_through (first ∷ trees) ends tree rest = ends_through trees (is_minus first) tree rest
 
-ident_no_minus : (tree : Sexp) (it : Ident) → IsIdent tree it → is_minus tree ≡ false
+pub ident_no_minus : (tree : Sexp) (it : Ident) → IsIdent tree it → is_minus tree ≡ false
 unfolding is_minus
 ident_no_minus _ _ (ident word name place is) = refl
 
@@ -171,7 +171,7 @@ ends_groups _ _ (untyped trees names some are) = ends_variables trees names are
 ends_groups _ _ (typed trees names at tree of rest groups some are is others) =
     rw (ends_through trees false (leaf (kind.Sign sign.Minus) at) (tree ∷ rest), ident_no_minus tree of is) (ends_groups rest groups others)
 
-typed_read : (place : Place) (trees : List Sexp) (groups : List RawGroup) → AreTyped trees groups → variable_list place trees ≡ fine groups
+pub typed_read : (place : Place) (trees : List Sexp) (groups : List RawGroup) → AreTyped trees groups → variable_list place trees ≡ fine groups
 typed_read place trees groups is = rw (ends_groups trees groups is, groups_read place trees groups is) refl
 
 mutual

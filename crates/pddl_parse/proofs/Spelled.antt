@@ -61,7 +61,7 @@ pub named_sound : (P : Ident → Type 0) (place : Place) (fault : ShapeError) (f
 named_sound P place fault (Some name) h = h name refl
 named_sound P place fault None h = tt
 
-kind_ident_sound : (place : Place) (k : TokenKind) → Sound (kind_ident place k) (IsIdent (leaf k place))
+pub kind_ident_sound : (place : Place) (k : TokenKind) → Sound (kind_ident place k) (IsIdent (leaf k place))
 kind_ident_sound place (kind.Word word) = named_sound (IsIdent (leaf (kind.Word word) place)) place _ (name_of word) (λ name is. ident word name place is)
 kind_ident_sound place kind.Open = tt
 kind_ident_sound place kind.Close = tt
@@ -151,12 +151,12 @@ pub take_whole : {A : Type 0} (xs : List A) → take (length xs) xs ≡ xs
 take_whole [] = refl
 take_whole (x ∷ xs) = ap (λ ys. x ∷ ys) (take_whole xs)
 
-enough_two : (n : ℕ) (place : Place) → lacking (nat_lt n 2) place ≡ [] → 2 ≤ n
+pub enough_two : (n : ℕ) (place : Place) → lacking (nat_lt n 2) place ≡ [] → 2 ≤ n
 enough_two zero place e = cc
 enough_two (suc zero) place e = cc
 enough_two (suc (suc n)) place e = omega arith
 
-min_two : (n : ℕ) → min (suc (suc (suc n))) 2 ≡ 2
+pub min_two : (n : ℕ) → min (suc (suc (suc n))) 2 ≡ 2
 min_two n = omega arith
 
 count_is : (op : Operator) (place : Place) (trees : List Sexp)

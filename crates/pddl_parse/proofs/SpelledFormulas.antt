@@ -33,8 +33,8 @@ use Rattle.pddl_parse.proofs.Rebuilt.{rebuilt}
 use Rattle.pddl_parse.proofs.Spelled.{Sound, sound_over, sound_two, sound_followed, ident_sound, term_sound, terms_sound, all_sound}
 
 pub record IsWord (first : Sexp) (word : List ℕ) : Type 0 where
-  at : Place
-  is : first ≡ leaf (kind.Word word) at
+  pub at : Place
+  pub is : first ≡ leaf (kind.Word word) at
 
 pub record IsMark (first : Sexp) (r : Relation) : Type 0 where
   at : Place
@@ -56,10 +56,10 @@ IsOf first (head.Quantifier q) = IsWord first (quantifier_word q)
 IsOf first (head.Compare r) = IsMark first r
 IsOf first head.Other = ⊤
 
-word_is : (word other : List ℕ) (at : Place) → bytes_eq word other ≡ true → IsWord (leaf (kind.Word word) at) other
+pub word_is : (word other : List ℕ) (at : Place) → bytes_eq word other ≡ true → IsWord (leaf (kind.Word word) at) other
 word_is word other at e = record { at = at; is = ap (λ w. leaf (kind.Word w) at) ((bytes_eq-Decides word other).0 e) }
 
-if_is : (P : Head → Type 0) (b : Bool) (here rest : Head) → (b ≡ true → P here) → P rest → P (if b then here else rest)
+pub if_is : (P : Head → Type 0) (b : Bool) (here rest : Head) → (b ≡ true → P here) → P rest → P (if b then here else rest)
 if_is P true here rest h n = h refl
 if_is P false here rest h n = n
 

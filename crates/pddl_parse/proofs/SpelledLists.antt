@@ -22,7 +22,7 @@ use Rattle.pddl_parse.proofs.Rebuilt.{rebuilt}
 use Rattle.pddl_parse.proofs.Spelled.{Sound, sound_two, sound_behind, named_sound, ident_sound}
 use Rattle.pddl_parse.proofs.SpelledFormulas.{AreVars, vars}
 
-kind_variable_sound : (at : Place) (k : TokenKind) → Sound (kind_variable at k) (IsVariable (leaf k at))
+pub kind_variable_sound : (at : Place) (k : TokenKind) → Sound (kind_variable at k) (IsVariable (leaf k at))
 kind_variable_sound at (kind.Variable word) = named_sound (IsVariable (leaf (kind.Variable word) at)) at _ (name_of word) (λ name is. variable word name at is)
 kind_variable_sound at (kind.Word word) = tt
 kind_variable_sound at (kind.Sign s) = tt
@@ -31,24 +31,24 @@ kind_variable_sound at kind.Close = tt
 kind_variable_sound at (kind.Keyword word) = tt
 kind_variable_sound at (kind.Number number) = tt
 
-variable_sound : (tree : Sexp) → Sound (shape.variable tree) (IsVariable tree)
+pub variable_sound : (tree : Sexp) → Sound (shape.variable tree) (IsVariable tree)
 unfolding shape.variable
 variable_sound (Leaf token) = kind_variable_sound token.place token.kind
 variable_sound (Group' place n row) = tt
 
-record IsMinus (tree : Sexp) : Type 0 where
-  at : Place
-  is : tree ≡ leaf (kind.Sign sign.Minus) at
+pub record IsMinus (tree : Sexp) : Type 0 where
+  pub at : Place
+  pub is : tree ≡ leaf (kind.Sign sign.Minus) at
 
-minus_sign : (at : Place) (s : Sign) → is_minus_kind (kind.Sign s) ≡ true → IsMinus (leaf (kind.Sign s) at)
+pub minus_sign : (at : Place) (s : Sign) → is_minus_kind (kind.Sign s) ≡ true → IsMinus (leaf (kind.Sign s) at)
 minus_sign at sign.Minus e = record { at = at; is = refl }
 minus_sign at _ e = cc
 
-minus_kind : (at : Place) (k : TokenKind) → is_minus_kind k ≡ true → IsMinus (leaf k at)
+pub minus_kind : (at : Place) (k : TokenKind) → is_minus_kind k ≡ true → IsMinus (leaf k at)
 minus_kind at (kind.Sign s) e = minus_sign at s e
 minus_kind at _ e = cc
 
-minus_is : (tree : Sexp) → is_minus tree ≡ true → IsMinus tree
+pub minus_is : (tree : Sexp) → is_minus tree ≡ true → IsMinus tree
 unfolding is_minus
 minus_is (Leaf token) e = minus_kind token.place token.kind e
 minus_is (Group' place n row) e = cc
@@ -62,15 +62,15 @@ snoc _ _ (more_variables first name front names here others) tree it is =
 none_front : (front : List Sexp) → AreVariables front [] → front ≡ []
 none_front _ no_variables = refl
 
-step_sound : (P : List RawGroup → Type 0) (b : Bool) (v w : Read (List RawGroup)) → (b ≡ true → Sound v P) → Sound w P → Sound (if b then v else w) P
+pub step_sound : (P : List RawGroup → Type 0) (b : Bool) (v w : Read (List RawGroup)) → (b ≡ true → Sound v P) → Sound w P → Sound (if b then v else w) P
 step_sound P true v w h n = h refl
 step_sound P false v w h n = n
 
-last_sound : (place : Place) (front : List Sexp) (names : List Ident) → AreVariables front names → Sound (last_group place names false) (AreTyped (front ++ []))
+pub last_sound : (place : Place) (front : List Sexp) (names : List Ident) → AreVariables front names → Sound (last_group place names false) (AreTyped (front ++ []))
 last_sound place front [] are = subst (λ xs. AreTyped (xs ++ []) []) (sym (none_front front are)) no_groups
 last_sound place front (name ∷ names) are = rw append-nil (untyped front (name ∷ names) (λ e. cc) are)
 
-on_minus_sound : (P : List RawGroup → Type 0) (tree : Sexp) (names : List Ident) (go : Go) → (names ≢ [] → Sound (go names true) P) → Sound (on_minus tree names go) P
+pub on_minus_sound : (P : List RawGroup → Type 0) (tree : Sexp) (names : List Ident) (go : Go) → (names ≢ [] → Sound (go names true) P) → Sound (on_minus tree names go) P
 on_minus_sound P tree [] go h = sound_behind P (misfit tree ∷ []) (go [] true) (λ e. cc)
 on_minus_sound P tree (name ∷ names) go h = h (λ e. cc)
 
@@ -99,10 +99,10 @@ mutual
       sound_two (IsIdent tree) (AreTyped rest) (AreTyped (front ++ leaf (kind.Sign sign.Minus) at ∷ tree ∷ rest)) _ (shape.ident tree) (lists.typed item.Variable place rest [] false)
       (λ it groups is others. typed front names at tree it rest groups some are is others) (ident_sound tree) (names_on place rest [] [] no_variables)
 
-list_sound : (place : Place) (trees : List Sexp) → Sound (variable_list place trees) (AreTyped trees)
+pub list_sound : (place : Place) (trees : List Sexp) → Sound (variable_list place trees) (AreTyped trees)
 list_sound place trees = sound_behind (AreTyped trees) (short (ends_in_minus trees) place trees) (lists.typed item.Variable place trees [] false) (λ e. names_on place trees [] [] no_variables)
 
-sound_map : (P Q : List RawGroup → Type 0) (v : Read (List RawGroup)) → ((g : List RawGroup) → P g → Q g) → Sound v P → Sound v Q
+pub sound_map : (P Q : List RawGroup → Type 0) (v : Read (List RawGroup)) → ((g : List RawGroup) → P g → Q g) → Sound v P → Sound v Q
 sound_map P Q (fine g) h p = h g p
 sound_map P Q (faulty f fs) h p = tt
 

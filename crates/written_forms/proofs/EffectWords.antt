@@ -18,18 +18,13 @@ use Rattle.pddl_parse.specs.Brackets.{is_word}
 use Rattle.pddl_parse.specs.Effects.{effect_word, effect_head, new_value}
 use Rattle.pddl_parse.specs.Forms.{leaf, IsIdent, ident, variable, IsTerm, a_name, a_variable, a_number, a_call, an_expression}
 use Rattle.pddl_parse.proofs.Nodes.{is_word-Group}
-use Rattle.pddl_parse.proofs.Read.{term_read}
+use Rattle.pddl_parse.proofs.Read.{not_reserved, term_read}
 use Rattle.pddl_write.specs.Effects.{change_text}
 use Rattle.written_forms.specs.RawEffects.{raw_change}
 
 or_parts : (a b : Bool) → (a || b) ≡ false → (a ≡ false) × (b ≡ false)
 or_parts true b h = absurd cc
 or_parts false b h = (refl, h)
-
-not_reserved : {A : Type 0} (s r : Bool) (x y : A) → (if s && not r then Some x else None) ≡ Some y → r ≡ false
-not_reserved true true x y e = cc
-not_reserved true false x y e = refl
-not_reserved false r x y e = cc
 
 -- the words that effects begin with, `undefined` and `number` are no names
 pub record IsFree (word : List ℕ) : Type 0 where
