@@ -82,7 +82,7 @@ made read_well written_read words files problem outputs is are =
         problem = are.source;
         holds_domain = are.holds.sources.holds_domain.0;
         holds_problem = are.holds.sources.holds_problem.0;
-        reads = are.reads;
+        reads = are.reads.reads;
       };
       holds_engine = record { text = are.engine; holds = (are.holds.holds_third (third_read (command_of words) is)).0; says = engine.says };
       holds_written = record {
@@ -92,7 +92,7 @@ made read_well written_read words files problem outputs is are =
             kept (word_at words 6) (word_at words 4) map second names.third_first ∙ kept (word_at words 5) (word_at words 4) source first names.second_first
             ∙ written (word_at words 4) domain files;
         holds_problem = kept (word_at words 6) (word_at words 5) map second names.third_second ∙ written (word_at words 5) source first;
-        reads = written_read problem (read_well are.domain are.source problem are.reads);
+        reads = written_read problem (read_well are.domain are.source problem are.reads.reads);
       };
       holds_map = record { text = map; holds = written (word_at words 6) map second; spelled = are.spelled };
       accepted = best_accepts _ _ _ engine.best;

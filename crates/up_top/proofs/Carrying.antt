@@ -5,7 +5,6 @@ use Rattle.up_store.specs.Outside.{Files, held_with}
 use Rattle.up_text.specs.declared.place.Place.{Place}
 use Rattle.up_tree.specs.declared.problem.Parts.{Parts}
 use Rattle.up_tree.specs.declared.problem.Plan.{Plan}
-use Rattle.up_check.specs.Passes.{Reads}
 use Rattle.up_check.specs.declared.refusal.File.{File}
 use Rattle.up_check.specs.declared.refusal.File.TheVariants as file
 use Rattle.up_phrase.specs.declared.reason.Reason.{Reason}
@@ -32,7 +31,7 @@ use Rattle.up_top.specs.declared.status.Status.{Status}
 use Rattle.up_top.specs.Answers.{status_of, stop_status}
 use Rattle.up_top.specs.Words.{word_at, command_of}
 use Rattle.up_top.specs.Cause.{HasPlan, IsBack, IsOutput, IsPlaced, IsRefusal, IsWriteStatus}
-use Rattle.up_top.specs.Inputs.{AreFour, AreInputs, IsBackEarly, IsMade, IsUnfit, OfMade, SaysBack, SaysEarly, StopsBack, StopsEnginePlan, StopsFit, StopsMade, StopsMap, StopsRead, StopsValid, Tells}
+use Rattle.up_top.specs.Inputs.{AreReadAs, AreFour, AreInputs, IsBackEarly, IsMade, IsUnfit, OfMade, SaysBack, SaysEarly, StopsBack, StopsEnginePlan, StopsFit, StopsMade, StopsMap, StopsRead, StopsValid, Tells}
 use Rattle.up_top.specs.Run.{CarriesAt, CompilesAt, HeldBack, IsWritten, Leaves}
 use Rattle.up_top.specs.Says.{IsOf}
 use Rattle.up_top.proofs.Inputs.{write_tells}
@@ -160,7 +159,7 @@ read_stop domain problem map plan (answer.Stopped (stop.WriteFault at)) stops = 
 read_stop domain problem map plan (answer.Stopped stop.NoPipeline) stops = absurd stops
 read_stop domain problem map plan (answer.Stopped (stop.InputTooLarge at)) stops = absurd stops
 
-pub made_stop : (domain problem map plan : List ℕ) (parts : Parts) (a : Answer) → Reads domain problem parts → StopsMade map plan a → StopsBack domain problem map plan a
+pub made_stop : (domain problem map plan : List ℕ) (parts : Parts) (a : Answer) → AreReadAs domain problem parts → StopsMade map plan a → StopsBack domain problem map plan a
 made_stop domain problem map plan parts (answer.Features kind) reads stops = absurd stops
 made_stop domain problem map plan parts (answer.Chain chain) reads stops = absurd stops
 made_stop domain problem map plan parts (answer.Actions count) reads stops = absurd stops
@@ -186,7 +185,7 @@ made_stop domain problem map plan parts (answer.Stopped (stop.WriteFault at)) re
 made_stop domain problem map plan parts (answer.Stopped stop.NoPipeline) reads stops = absurd stops
 made_stop domain problem map plan parts (answer.Stopped (stop.InputTooLarge at)) reads stops = absurd stops
 
-pub valid_stop : (domain problem map plan : List ℕ) (parts : Parts) (made : Plan) (a : Answer) → Reads domain problem parts → IsMade map plan made → StopsValid parts made a
+pub valid_stop : (domain problem map plan : List ℕ) (parts : Parts) (made : Plan) (a : Answer) → AreReadAs domain problem parts → IsMade map plan made → StopsValid parts made a
     → StopsBack domain problem map plan a
 valid_stop domain problem map plan parts made (answer.Features kind) reads makes stops = absurd stops
 valid_stop domain problem map plan parts made (answer.Chain chain) reads makes stops = absurd stops
@@ -217,7 +216,7 @@ pub writes_valid : (metric : Value) (text : List ℕ) (parts : Parts) (made : Pl
     → IsWritten metric text parts made
 writes_valid metric text parts made valid same = record { valid = valid; written = same }
 
-pub carries_plan : (domain problem map plan : List ℕ) (metric : Value) (text : List ℕ) (parts : Parts) (made : Plan) → Reads domain problem parts → IsMade map plan made
+pub carries_plan : (domain problem map plan : List ℕ) (metric : Value) (text : List ℕ) (parts : Parts) (made : Plan) → AreReadAs domain problem parts → IsMade map plan made
     → IsWritten metric text parts made → OfMade domain problem map plan (IsWritten metric text)
 carries_plan domain problem map plan metric text parts made reads makes written =
     record { parts = parts; reads = reads; made = made; is_made = makes; holds = written }

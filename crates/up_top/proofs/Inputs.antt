@@ -8,7 +8,6 @@ use Rattle.up_kind.specs.Features.{FeatureSet, has}
 use Rattle.up_compiler.specs.declared.id.CompilerId.{CompilerId}
 use Rattle.up_compiler.specs.declared.id.Chain.{Chain}
 use Rattle.up_tree.specs.declared.problem.Parts.{Parts}
-use Rattle.up_check.specs.Passes.{Reads}
 use Rattle.up_check.specs.declared.refusal.File.TheVariants as file
 use Rattle.up_pipeline.specs.declared.engine.EngineError.TheVariants as unread
 use Rattle.up_top.specs.declared.command.Command.{Command}
@@ -21,7 +20,7 @@ use Rattle.up_top.specs.declared.answer.Answer.TheVariants as answer
 use Rattle.up_top.specs.Answers.{status_of, stop_status}
 use Rattle.up_top.specs.Words.{command_of}
 use Rattle.up_top.specs.Cause.{IsHeld, IsKind, HasEngine, IsCompile, HasThird, IsInputStop, IsPlaced, IsWriteStatus, IsRefusal}
-use Rattle.up_top.specs.Inputs.{AreFour, AreInputs, AreSources, HasChain, HasFeatures, IsChosen, IsEarly, Says, SaysOfHeld, StopsBefore, StopsChoice, StopsRead, Tells}
+use Rattle.up_top.specs.Inputs.{AreReadAs, AreFour, AreInputs, AreSources, HasChain, HasFeatures, IsChosen, IsEarly, Says, SaysOfHeld, StopsBefore, StopsChoice, StopsRead, Tells}
 use Rattle.up_top.specs.Run.{CompilesAt}
 
 -- ---- held texts
@@ -72,7 +71,7 @@ read_stops domain problem engine (answer.Stopped (stop.WriteFault at)) stops = a
 read_stops domain problem engine (answer.Stopped stop.NoPipeline) stops = absurd stops
 read_stops domain problem engine (answer.Stopped (stop.InputTooLarge at)) stops = absurd stops
 
-choice_stops : (domain problem engine : List ℕ) (parts : Parts) (a : Answer) → Reads domain problem parts → StopsChoice engine parts a → StopsBefore domain problem engine a
+choice_stops : (domain problem engine : List ℕ) (parts : Parts) (a : Answer) → AreReadAs domain problem parts → StopsChoice engine parts a → StopsBefore domain problem engine a
 choice_stops domain problem engine parts (answer.Features kind) reads stops = absurd stops
 choice_stops domain problem engine parts (answer.Chain chain) reads stops = absurd stops
 choice_stops domain problem engine parts (answer.Actions count) reads stops = absurd stops
@@ -97,18 +96,18 @@ choice_stops domain problem engine parts (answer.Stopped (stop.InputTooLarge at)
 
 -- ---- the same of results that are handed on
 
-pub chain_result : (domain problem engine : List ℕ) (parts : Parts) (result : Result Chain Answer) → Reads domain problem parts
+pub chain_result : (domain problem engine : List ℕ) (parts : Parts) (result : Result Chain Answer) → AreReadAs domain problem parts
     → IfOk result (λ chain. IsChosen engine parts chain.stages) → IfOk result (λ chain. HasChain domain problem engine chain.stages)
 chain_result domain problem engine parts (Ok chain) reads chosen = record { parts = parts; reads = reads; chosen = chosen }
 chain_result domain problem engine parts (Err a) reads chosen = tt
 
-pub stops_result : {T : Type 0} (domain problem engine : List ℕ) (parts : Parts) (result : Result T Answer) → Reads domain problem parts
+pub stops_result : {T : Type 0} (domain problem engine : List ℕ) (parts : Parts) (result : Result T Answer) → AreReadAs domain problem parts
     → IfErr result (StopsChoice engine parts) → IfErr result (StopsBefore domain problem engine)
 stops_result domain problem engine parts (Ok value) reads stops = tt
 stops_result domain problem engine parts (Err a) reads stops = choice_stops domain problem engine parts a reads stops
 
-pub reads_result : (domain problem : List ℕ) (parts : Parts) (result : Result Whole Answer) → Reads domain problem parts
-    → IfOk result (λ whole. whole.problem ≡ parts) → IfOk result (λ whole. Reads domain problem whole.problem)
+pub reads_result : (domain problem : List ℕ) (parts : Parts) (result : Result Whole Answer) → AreReadAs domain problem parts
+    → IfOk result (λ whole. whole.problem ≡ parts) → IfOk result (λ whole. AreReadAs domain problem whole.problem)
 reads_result domain problem parts (Ok whole) reads same = rw same reads
 reads_result domain problem parts (Err a) reads same = tt
 
@@ -208,7 +207,7 @@ unread_tells words domain problem (Some files) a kind held stops =
     says_held words domain problem [] files a (kind_inputs words domain problem files kind held) (read_stops domain problem [] a stops).says
 
 pub features_tell : (words : List (List ℕ)) (domain problem : List ℕ) (held : Option Files) (kind : Kind) (parts : Parts) → IsKind (command_of words)
-    → IfSome held (AreSources words domain problem) → Reads domain problem parts → has kind.0 ≡ carries parts
+    → IfSome held (AreSources words domain problem) → AreReadAs domain problem parts → has kind.0 ≡ carries parts
     → IfSome held (Tells words (answer.Features kind))
 features_tell words domain problem None kind parts of held reads features = tt
 features_tell words domain problem (Some files) kind parts of held reads features =
@@ -227,7 +226,7 @@ chain_tells words domain problem engine (Some files) chain held has =
     record { domain = domain; problem = problem; third = engine; held = held; says = has }
 
 pub actions_tell : (words : List (List ℕ)) (domain problem engine : List ℕ) (held : Option Files) (parts : Parts)
-    → IfSome held (AreInputs words domain problem engine) → Reads domain problem parts → IfSome held (Tells words (answer.Actions (length parts.actions)))
+    → IfSome held (AreInputs words domain problem engine) → AreReadAs domain problem parts → IfSome held (Tells words (answer.Actions (length parts.actions)))
 actions_tell words domain problem engine None parts held reads = tt
 actions_tell words domain problem engine (Some files) parts held reads =
     record {
@@ -240,7 +239,7 @@ actions_tell words domain problem engine (Some files) parts held reads =
 
 -- a stop of the writes
 pub write_tells : (words : List (List ℕ)) (domain problem engine : List ℕ) (held : Option Files) (s : Stop) (parts : Parts) → IfSome held (AreInputs words domain problem engine)
-    → Reads domain problem parts → IsWriteStatus 4 6 (stop_status s) → IfSome held (Tells words (answer.Stopped s))
+    → AreReadAs domain problem parts → IsWriteStatus 4 6 (stop_status s) → IfSome held (Tells words (answer.Stopped s))
 write_tells words domain problem engine None s parts held reads kind = tt
 write_tells words domain problem engine (Some files) stop.Usage parts held reads kind = absurd kind
 write_tells words domain problem engine (Some files) stop.Memory parts held reads kind = tt

@@ -4,7 +4,6 @@ use Rattle.std.specs.Prelude.{IfSome}
 use Rattle.up_store.specs.Outside.{Files}
 use Rattle.up_tree.specs.declared.problem.Parts.{Parts}
 use Rattle.up_tree.specs.declared.problem.Plan.{Plan}
-use Rattle.up_check.specs.Passes.{Reads}
 use Rattle.up_check.specs.declared.refusal.File.TheVariants as file
 use Rattle.up_validate.specs.declared.verdict.Verdict.TheVariants as verdict
 use Rattle.plan_text.specs.Spells.{PlanText}
@@ -18,7 +17,7 @@ use Rattle.up_top.specs.declared.status.Status.TheVariants.{Done, Usage, Memory,
 use Rattle.up_top.specs.Answers.{status_of}
 use Rattle.up_top.specs.Words.{command_of}
 use Rattle.up_top.specs.Cause.{ReadCause, WriteCause, StopsAt, StopsFirst, AreReadable, IsPlaced, IsRefusal, HasOutputs, HasPlan, IsValidate, inputs_end}
-use Rattle.up_top.specs.Inputs.{IsOnPlan, IsPlanAnswer, Says, StopsPlan, StopsRead}
+use Rattle.up_top.specs.Inputs.{AreReadAs, IsOnPlan, IsPlanAnswer, Says, StopsPlan, StopsRead}
 use Rattle.up_top.specs.Run.{CompilesAt, HasPlace, Leaves}
 use Rattle.up_top.specs.Says.{IsOf}
 use Rattle.up_top.proofs.Ends.{refusal_within, refusal_fit, refusal_put, refusal_held, refusal_read, refusal_write, refusal_told, refusal_first, done_first}
@@ -78,7 +77,7 @@ plan_answers text (answer.Stopped (stop.WriteFault at)) stops = absurd stops
 plan_answers text (answer.Stopped stop.NoPipeline) stops = absurd stops
 plan_answers text (answer.Stopped (stop.InputTooLarge at)) stops = absurd stops
 
-pub plan_says : (domain problem text : List ℕ) (parts : Parts) (a : Answer) → Reads domain problem parts → StopsPlan text a → Says a domain problem text
+pub plan_says : (domain problem text : List ℕ) (parts : Parts) (a : Answer) → AreReadAs domain problem parts → StopsPlan text a → Says a domain problem text
 plan_says domain problem text parts (answer.Features kind) reads stops = absurd stops
 plan_says domain problem text parts (answer.Chain chain) reads stops = absurd stops
 plan_says domain problem text parts (answer.Actions count) reads stops = absurd stops
@@ -114,7 +113,7 @@ judged_answers parts plan (answer.Stopped (stop.WriteFault at)) on = absurd on
 judged_answers parts plan (answer.Stopped stop.NoPipeline) on = absurd on
 judged_answers parts plan (answer.Stopped (stop.InputTooLarge at)) on = absurd on
 
-pub judged_says : (domain problem text : List ℕ) (parts : Parts) (plan : Plan) (a : Answer) → Reads domain problem parts → PlanText text plan → IsOnPlan parts plan a
+pub judged_says : (domain problem text : List ℕ) (parts : Parts) (plan : Plan) (a : Answer) → AreReadAs domain problem parts → PlanText text plan → IsOnPlan parts plan a
     → Says a domain problem text
 judged_says domain problem text parts plan (answer.Features kind) reads spelled on = absurd on
 judged_says domain problem text parts plan (answer.Chain chain) reads spelled on = absurd on

@@ -14,8 +14,7 @@ use Rattle.up_map.specs.Texts.{map_text}
 use Rattle.pddl_write.specs.Files.{domain_text, problem_text}
 use Rattle.up_top.specs.Run.{Output, SomeWritten, HeldAfter, Leaves, IsWhole, Compiles, outputs_of, held_after, write_status}
 use Rattle.up_top.specs.Cause.{IsWriteStatus, IsCompile}
-use Rattle.up_top.specs.Inputs.{AreInputs}
-use Rattle.up_check.specs.Passes.{Reads}
+use Rattle.up_top.specs.Inputs.{AreReadAs, AreInputs}
 use Rattle.up_top.specs.Answers.{stop_status}
 
 none_written : (words : List (List ℕ)) (outputs : List Output) (old new : Option Files) → new ≡ old → SomeWritten words outputs old new
@@ -69,7 +68,7 @@ goes_on words output outputs old mid new NumberTooLarge first last done held kin
 
 -- what comes of the writes of a problem and its map
 pub wrote : (words : List (List ℕ)) (old new : Option Files) (status : Status) (problem : Parts) (map : Map) (domain_bytes problem_bytes map_bytes : List ℕ)
-    → IsCompile (command_of words) → (domain source engine : List ℕ) → IfSome old (AreInputs words domain source engine) → Reads domain source problem
+    → IsCompile (command_of words) → (domain source engine : List ℕ) → IfSome old (AreInputs words domain source engine) → AreReadAs domain source problem
     → IsWhole engine problem map → MapText map_bytes map
     → domain_bytes ≡ domain_text problem → problem_bytes ≡ problem_text problem → map_bytes ≡ map_text map
     → HeldAfter words (outputs_of domain_bytes problem_bytes map_bytes) old new status
@@ -81,7 +80,7 @@ wrote words old new status problem map domain_bytes problem_bytes map_bytes has 
 
 -- the writes of a problem and its map that are done
 pub compiles : (words : List (List ℕ)) (old new : Option Files) (problem : Parts) (map : Map) (domain_bytes problem_bytes map_bytes : List ℕ)
-    → (domain source engine : List ℕ) → IfSome old (AreInputs words domain source engine) → Reads domain source problem → IsWhole engine problem map
+    → (domain source engine : List ℕ) → IfSome old (AreInputs words domain source engine) → AreReadAs domain source problem → IsWhole engine problem map
     → MapText map_bytes map
     → domain_bytes ≡ domain_text problem → problem_bytes ≡ problem_text problem → map_bytes ≡ map_text map
     → new ≡ held_after words (outputs_of domain_bytes problem_bytes map_bytes) old

@@ -9,7 +9,7 @@ use Rattle.up_compiler.specs.declared.id.CompilerId.{CompilerId}
 use Rattle.up_tree.specs.declared.problem.Parts.{Parts}
 use Rattle.up_tree.specs.declared.problem.Plan.{Plan}
 use Rattle.up_check.specs.declared.refusal.ReadError.TheVariants as read
-use Rattle.up_check.specs.Passes.{Reads, FirstFault}
+use Rattle.up_check.specs.Passes.{AreShallow, FirstFault, Reads}
 use Rattle.up_pipeline.specs.declared.engine.Engine.{Engine}
 use Rattle.up_pipeline.specs.declared.engine.EngineError.{EngineError}
 use Rattle.up_pipeline.specs.declared.engine.EngineError.TheVariants as unread
@@ -38,15 +38,20 @@ use Rattle.up_top.specs.declared.answer.Answer.TheVariants as answer
 use Rattle.up_top.specs.Words.{command_of}
 use Rattle.up_top.specs.Cause.{IsHeld, HasThird}
 
+-- the two texts are read as this problem: they read as it, and open no bracket too deep
+pub record AreReadAs (domain problem : List ℕ) (parts : Parts) : Type 0 where
+  pub reads : Reads domain problem parts
+  pub shallow : AreShallow domain problem
+
 -- the two texts read as a problem
 pub record AreRead (domain problem : List ℕ) : Type 0 where
   pub parts : Parts
-  pub reads : Reads domain problem parts
+  pub reads : AreReadAs domain problem parts
 
 -- the features of the problem that two texts read as
 pub record HasFeatures (domain problem : List ℕ) (kind : Kind) : Type 0 where
   pub parts : Parts
-  pub reads : Reads domain problem parts
+  pub reads : AreReadAs domain problem parts
   pub features : has kind.0 ≡ carries parts
 
 -- the chain that is chosen for a problem and an engine text
@@ -64,13 +69,13 @@ pub record NoChain (engine : List ℕ) (problem : Parts) : Type 0 where
 -- the chain for three texts
 pub record HasChain (domain problem engine : List ℕ) (stages : List CompilerId) : Type 0 where
   pub parts : Parts
-  pub reads : Reads domain problem parts
+  pub reads : AreReadAs domain problem parts
   pub chosen : IsChosen engine parts stages
 
 -- no chain for three texts
 pub record HasNoChain (domain problem engine : List ℕ) : Type 0 where
   pub parts : Parts
-  pub reads : Reads domain problem parts
+  pub reads : AreReadAs domain problem parts
   pub none : NoChain engine parts
 
 -- both texts are read, and the engine text is refused by this
@@ -86,7 +91,7 @@ pub record HasNoPlan (domain problem text : List ℕ) (place : Place) : Type 0 w
 -- this holds of the problem that both texts read as and the plan that the plan text spells
 pub record OfPlan (domain problem text : List ℕ) (Holds : Parts → Plan → Type 0) : Type 0 where
   pub parts : Parts
-  pub reads : Reads domain problem parts
+  pub reads : AreReadAs domain problem parts
   pub plan : Plan
   pub spelled : PlanText text plan
   pub holds : Holds parts plan
@@ -94,7 +99,7 @@ pub record OfPlan (domain problem text : List ℕ) (Holds : Parts → Plan → T
 -- this many actions has the problem that both texts read as
 pub record IsCounted (domain problem : List ℕ) (count : ℕ) : Type 0 where
   pub parts : Parts
-  pub reads : Reads domain problem parts
+  pub reads : AreReadAs domain problem parts
   pub counted : count ≡ length parts.actions
 
 -- ---- conversions
@@ -135,7 +140,7 @@ pub record Behind (domain problem : List ℕ) (Holds : Type 0) : Type 0 where
 -- this holds of the problem that the domain and problem texts read as and the plan that the map makes of the plan
 pub record OfMade (domain problem map plan : List ℕ) (Holds : Parts → Plan → Type 0) : Type 0 where
   pub parts : Parts
-  pub reads : Reads domain problem parts
+  pub reads : AreReadAs domain problem parts
   pub made : Plan
   pub is_made : IsMade map plan made
   pub holds : Holds parts made

@@ -8,7 +8,6 @@ use Rattle.up_validate.specs.Verdicts.{IsVerdict}
 use Rattle.plan_text.specs.Texts.{plan_text}
 use Rattle.up_compiler.specs.Identity.{identity_entries}
 use Rattle.up_tree.specs.declared.problem.Parts.{Parts}
-use Rattle.up_check.specs.Passes.{Reads}
 use Rattle.up_map.specs.declared.map.Map.{Map}
 use Rattle.up_map.specs.Spells.{MapText}
 use Rattle.up_map.specs.Texts.{map_text}
@@ -24,7 +23,7 @@ use Rattle.up_top.specs.Words.{word_at, command_of}
 use Rattle.up_top.specs.Answers.{stop_status, actions_text}
 use Rattle.up_top.specs.Verdicts.{verdict_text}
 use Rattle.up_top.specs.Cause.{IsCompile, IsBack, HasOutputs}
-use Rattle.up_top.specs.Inputs.{AreFour, AreInputs, IsChosen, OfMade}
+use Rattle.up_top.specs.Inputs.{AreFour, AreInputs, AreReadAs, IsChosen, OfMade}
 
 -- a text under the output name at a place of the words
 pub record Output : Type 0 where
@@ -76,7 +75,7 @@ pub record AreOutputs (words : List (List ℕ)) (held : Option Files) (problem :
   pub source : List ℕ
   pub engine : List ℕ
   pub holds : IfSome held (AreInputs words domain source engine)
-  pub reads : Reads domain source problem
+  pub reads : AreReadAs domain source problem
   pub map : Map
   pub whole : IsWhole engine problem map
   pub spelled : MapText (map_text map) map

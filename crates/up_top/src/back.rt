@@ -1,11 +1,10 @@
 ghost use Rattle.std.specs.Prelude.{◌≡◌, ◌≤◌, ◌<◌, length, None, Some, IfSome, IfOk, IfErr};
 ghost use Rattle.plan_text.specs.Spells.{PlanText};
-ghost use Rattle.up_check.specs.Passes.{Reads};
 ghost use Rattle.up_compiler.specs.Back.{back as by_entries};
 ghost use Rattle.up_map.specs.Spells.{MapText};
 ghost use Rattle.up_top.specs.Answers.{status_of};
 ghost use Rattle.up_top.specs.Cause.{ReadCause, WriteCause, StopsAt, StopsFirst, AreReadable, IsBack, IsPlaced, IsWriteStatus, inputs_end};
-ghost use Rattle.up_top.specs.Inputs.{AreFour, AreInputs, IsMade, OfMade, StopsBack, StopsEnginePlan, StopsFit, StopsMade, StopsMap, StopsValid, Tells};
+ghost use Rattle.up_top.specs.Inputs.{AreReadAs, AreFour, AreInputs, IsMade, OfMade, StopsBack, StopsEnginePlan, StopsFit, StopsMade, StopsMap, StopsValid, Tells};
 ghost use Rattle.up_top.specs.Run.{CarriesAt, CompilesAt, HasPlace, HeldBack, IsWritten, Leaves, write_status};
 ghost use Rattle.up_top.specs.Says.{IsOf};
 ghost use Rattle.up_top.specs.Words.{command_of};
@@ -127,7 +126,7 @@ fn carried_by(alloc: Global, problem: &Problem, plan: &Plan) -> Result<Carried, 
 // The text of the converted plan of the inputs, which is valid for their problem.
 #[tactic(auto, using(crate::proofs::Carrying::carries))]
 fn carried_for(alloc: Global, problem: &Problem, inputs: &BackInputs) -> Result<Carried, Answer>
-    requires reads { Reads inputs.now.inputs.sources.domain.items inputs.now.inputs.sources.problem.items problem.now }
+    requires reads { AreReadAs inputs.now.inputs.sources.domain.items inputs.now.inputs.sources.problem.items problem.now }
     ensures carried { IfOk result (λ carried. OfMade inputs.now.inputs.sources.domain.items inputs.now.inputs.sources.problem.items inputs.now.inputs.third.items inputs.now.plan.items (IsWritten carried.metric carried.text.items)) }
     ensures stops { IfErr result (StopsBack inputs.now.inputs.sources.domain.items inputs.now.inputs.sources.problem.items inputs.now.inputs.third.items inputs.now.plan.items) }
 {

@@ -1,8 +1,7 @@
 ghost use Rattle.std.specs.Prelude.{◌≡◌, ◌≤◌, ◌<◌, length, None, Some, IfSome};
 ghost use Rattle.up_top.specs.Answers.{status_of};
-ghost use Rattle.up_check.specs.Passes.{Reads};
 ghost use Rattle.up_top.specs.Cause.{ReadCause, WriteCause, StopsAt, StopsFirst, IsPlaced, IsCompile, AreReadable, IsWriteStatus, inputs_end};
-ghost use Rattle.up_top.specs.Inputs.{AreInputs, Tells};
+ghost use Rattle.up_top.specs.Inputs.{AreReadAs, AreInputs, Tells};
 ghost use Rattle.up_top.specs.Run.{CompilesAt, HasPlace, IsWhole, Leaves};
 ghost use Rattle.up_top.specs.Says.{IsOf};
 ghost use Rattle.up_top.specs.Words.{command_of};
@@ -29,7 +28,7 @@ fn write_whole<W: Store>(
     requires within { 7 ≤ length words.now }
     requires outputs { IsCompile (command_of words.now) }
     requires inputs { inputs_end (command_of words.now) ≡ 4 }
-    requires reads { Reads inputs.now.sources.domain.items inputs.now.sources.problem.items whole.now.problem }
+    requires reads { AreReadAs inputs.now.sources.domain.items inputs.now.sources.problem.items whole.now.problem }
     requires whole { IsWhole inputs.now.third.items whole.now.problem whole.now.map }
     requires texts { IfSome (W.held store.old) (AreInputs words.now inputs.now.sources.domain.items inputs.now.sources.problem.items inputs.now.third.items) }
     requires readable { IfSome (W.held store.old) (AreReadable words.now 4) }

@@ -1,8 +1,7 @@
 ghost use Rattle.std.specs.Prelude.{◌≡◌, IfOk, IfErr};
-ghost use Rattle.up_check.specs.Passes.{Reads};
 ghost use Rattle.up_top.specs.Answers.{status_of};
 ghost use Rattle.up_top.specs.Cause.{IsReadRefusal, IsRefusal};
-ghost use Rattle.up_top.specs.Inputs.{IsChosen, StopsBefore, StopsChoice, StopsRead};
+ghost use Rattle.up_top.specs.Inputs.{AreReadAs, IsChosen, StopsBefore, StopsChoice, StopsRead};
 ghost use Rattle.up_top.specs.Run.{IsWhole};
 
 use crate::answer::{Answer, Stop};
@@ -17,7 +16,7 @@ use up_tree::Problem;
 
 /// The problem that the sources say.
 pub(crate) fn problem_of(alloc: Global, sources: &Sources) -> Result<Problem, Answer>
-    ensures reads { IfOk result (Reads sources.now.domain.items sources.now.problem.items) }
+    ensures reads { IfOk result (AreReadAs sources.now.domain.items sources.now.problem.items) }
     ensures stops { IfErr result (StopsRead sources.now.domain.items sources.now.problem.items) }
     ensures refused { IfErr result (λ answer. IsReadRefusal (status_of answer)) }
 {
@@ -93,7 +92,7 @@ fn whole_with(alloc: Global, problem: Problem, engine: &[u8]) -> Result<Whole, A
 /// The compiled problem of the inputs.
 #[tactic(auto, using(crate::proofs::Inputs::stops))]
 pub(crate) fn whole_of(alloc: Global, inputs: &Inputs) -> Result<Whole, Answer>
-    ensures reads { IfOk result (λ whole. Reads inputs.now.sources.domain.items inputs.now.sources.problem.items whole.problem) }
+    ensures reads { IfOk result (λ whole. AreReadAs inputs.now.sources.domain.items inputs.now.sources.problem.items whole.problem) }
     ensures whole { IfOk result (λ whole. IsWhole inputs.now.third.items whole.problem whole.map) }
     ensures stops { IfErr result (StopsBefore inputs.now.sources.domain.items inputs.now.sources.problem.items inputs.now.third.items) }
 {
