@@ -49,7 +49,7 @@ no_stages (id ∷ stages) over = absurd over.0
 best_accepts : (listed K : FeatureSet) (stages : List CompilerId) → IsBest [] listed K stages → accepts listed K ≡ true
 best_accepts listed K stages best = subst (λ chain. fits listed K chain ≡ true) (no_stages stages best.over) best.fitting
 
-third_read : (command : Option Command) → IsCompile command → HasThird command
+pub third_read : (command : Option Command) → IsCompile command → HasThird command
 third_read None is = is
 third_read (Some command.Kind) is = is
 third_read (Some command.Pipeline) is = tt

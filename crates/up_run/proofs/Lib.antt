@@ -1,3 +1,4 @@
 pub mod Apart
 pub mod Headline
 pub mod Laws
+pub mod Due

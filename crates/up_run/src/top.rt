@@ -4,7 +4,9 @@ ghost use Rattle.up_top.specs.Cause.{ReadCause, WriteCause, StopsAt, StopsFirst,
 ghost use Rattle.up_top.specs.Run.{CarriesDone, CompilesDone, Leaves};
 ghost use Rattle.up_top.specs.Says.{PutsAnswer};
 ghost use Rattle.up_top.specs.Words.{command_of};
+ghost use Rattle.up_run.specs.Due.{IsDueAt, IsOrMemory, WasDue};
 ghost use Rattle.up_run.specs.Headline.{Headline};
+ghost use Rattle.up_top.specs.declared.status.Status.{Status};
 
 use std::alloc::Global;
 use up_store::{Sink, Store, Word};
@@ -42,6 +44,16 @@ pub fn run<W: Store, K: Sink>(alloc: Global, words: &[Word], store: &mut W, out:
     ensures complete { is_some (command_of words.now) ≡ true → IfSome (W.held store.old) (λ files.
         AllWell W.faults W.losses words.now store.old store.new (K.faults out.old) (K.faults out.new) files
         → IsOutcome (command_of words.now) result) }
+
+    // A compile that is done, or that refused a text or found no chain that fits, was due to: a text is refused exactly at
+    // its first fault, and no chain is found exactly where none fits.
+    ensures caused { IsCompile (command_of words.now) → IfSome (W.held store.old) (λ files. WasDue words.now files result) }
+
+    // Where nothing fails, a compile ends with the status that is due, or for want of memory: done where the texts read, open
+    // no bracket too deep, and a chain fits.
+    ensures due { IsCompile (command_of words.now) → IfSome (W.held store.old) (λ files.
+        AllWell W.faults W.losses words.now store.old store.new (K.faults out.old) (K.faults out.new) files
+        → (status : Status) → IsDueAt words.now files status → IsOrMemory status result) }
 
     // A compile that is done has written a problem that the engine accepts, and a map that makes of its plans exactly the
     // plans of the source, at the same metric.
