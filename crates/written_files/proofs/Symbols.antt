@@ -35,7 +35,7 @@ use Rattle.written_tokens.proofs.Declared.{numbered_spelled}
 use Rattle.written_forms.specs.Raw.{IsEmpty, empty, IsFirst, first, at}
 use Rattle.written_forms.proofs.Trees.{formed_as, none_rowed, rowed_as, group_formed, leaf_formed, Led, led, led_rowed}
 use Rattle.written_forms.proofs.Names.{word_is, AllNamed}
-use Rattle.written_forms.proofs.EffectWords.{IsFree, free}
+use Rattle.shape_laws.proofs.EffectWords.{IsFree, free}
 use Rattle.written_forms.proofs.Terms.{SpellsName, spells_name, name_formed}
 use Rattle.written_forms.proofs.Groups.{SpellGroups, spell_groups, groups_rowed}
 use Rattle.written_forms.proofs.Rows.{variables_read}

@@ -47,7 +47,8 @@ use Rattle.written_forms.proofs.Trees.{kinds_of, at, Formed, leaf_formed, group_
 use Rattle.written_forms.proofs.Names.{found_named, AllNamed, AreNamed}
 use Rattle.written_forms.proofs.Terms.{SpellsTerm, spells, spell, spells_name, IsCallRow, call_row, call_rowed, term_formed, terms_formed, expr_formed}
 use Rattle.written_forms.proofs.Formulas.{SpellsFormula, spells_formula, worded, formula_formed}
-use Rattle.written_forms.proofs.EffectWords.{ident_other, value_read, change_word}
+use Rattle.shape_laws.proofs.EffectWords.{ident_other, value_read}
+use Rattle.written_forms.proofs.EffectWords.{change_word}
 
 -- a tree that is read as an effect of which this is so
 pub data SpellsEffect (P : RawEffect → Type 0) (tree : Sexp) : Type 0 where
