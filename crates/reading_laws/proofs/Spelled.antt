@@ -7,8 +7,9 @@ use Rattle.up_check.specs.Problems.{problem_names}
 use Rattle.up_check.specs.Passes.{AreShallow, FirstFault, IsSettled, Reads, ReadsAs}
 use Rattle.up_check.proofs.Laws.{faultless, problem_one, settled}
 use Rattle.pddl_parse.specs.Texts as texts
-use Rattle.shape_laws.proofs.Texts as shape
-use Rattle.name_laws.proofs.Problems as names
+use Rattle.shape_laws.proofs.Domains as domains
+use Rattle.shape_laws.proofs.Problems as problems
+use Rattle.name_laws.proofs.ProblemForms as names
 use Rattle.reading_laws.specs.Spelled.{SpellsDomain, SpellsProblem, TextsSpell}
 use Rattle.reading_laws.specs.Laws.{SpellsOrStops, spells, stops}
 
@@ -18,7 +19,7 @@ domain_is_read text known s =
       trees = s.trees;
       spelled = s.bracketed;
       form = s.form;
-      shape = shape.domain_read s.trees s.form s.spelled;
+      shape = domains.domain_read s.trees s.form s.spelled;
       known = names.domain_read s.form known s.denoted;
     }
 
@@ -28,7 +29,7 @@ problem_is_read known text parts s =
       trees = s.trees;
       spelled = s.bracketed;
       form = s.form;
-      shape = shape.problem_read s.trees s.form s.spelled;
+      shape = problems.problem_read s.trees s.form s.spelled;
       known = names.problem_read known s.form parts s.denoted;
     }
 
@@ -38,7 +39,7 @@ domain_is_spelled text known r =
       trees = r.trees;
       bracketed = r.spelled;
       form = r.form;
-      spelled = shape.domain_spelled r.trees r.form r.shape;
+      spelled = domains.domain_spelled r.trees r.form r.shape;
       denoted = names.domain_denotes r.form known r.known;
     }
 
@@ -48,7 +49,7 @@ problem_is_spelled known text parts r =
       trees = r.trees;
       bracketed = r.spelled;
       form = r.form;
-      spelled = shape.problem_spelled r.trees r.form r.shape;
+      spelled = problems.problem_spelled r.trees r.form r.shape;
       denoted = names.problem_denotes known r.form parts r.known;
     }
 

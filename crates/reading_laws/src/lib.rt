@@ -3,4 +3,4 @@
 
 mod laws;
 
-pub use laws::first_faults_are_one;
+pub use laws::{texts_are_read, texts_spell_or_stop};

@@ -6,7 +6,6 @@ use Rattle.up_tree.specs.declared.problem.Parts.{Parts}
 use Rattle.up_check.specs.declared.refusal.File.TheVariants as file
 use Rattle.up_check.specs.declared.refusal.ReadError.TheVariants.{Refused}
 use Rattle.up_check.specs.Passes.{FirstFault}
-use Rattle.up_check.proofs.Laws.{faultless, problem_one}
 use Rattle.up_pipeline.specs.declared.engine.Engine.{Engine}
 use Rattle.up_pipeline.specs.declared.engine.EngineError.{EngineError}
 use Rattle.up_pipeline.specs.declared.engine.EngineError.TheVariants as unread
@@ -27,14 +26,15 @@ use Rattle.up_top.specs.Inputs.{AreInputs, AreReadAs, NoChain, Tells}
 use Rattle.up_top.specs.Run.{AreOutputs, CompilesDone}
 use Rattle.up_top.specs.Says.{IsOf, PutsAnswer, ended}
 use Rattle.up_top.specs.Words.{command_of, word_at}
-use Rattle.up_run.specs.Due.{AChainFits, IsDue, refused_domain, refused_problem, refused_engine, unfit, done, IsDueAt, IsOrMemory, is_due, no_memory, WasDue}
+use Rattle.up_run.specs.Due.{AChainFits, AreTakenAs, IsDue, refused_domain, refused_problem, refused_engine, unfit, done, IsDueAt, IsOrMemory, is_due, no_memory, WasDue}
 use Rattle.reading_laws.proofs.Faults.{one_fault}
+use Rattle.reading_laws.proofs.Spelled.{one_is_spelled, read_is_spelled, spelled_is_faultless}
 use Rattle.up_run.proofs.Headline.{third_read}
 
 -- ---- one status is due
 
-never_read : {A : Type 0} (domain problem : List ℕ) (parts : Parts) (refusal : _) → AreReadAs domain problem parts → FirstFault domain problem refusal → A
-never_read domain problem parts refusal are stops = absurd (faultless domain problem parts refusal are.reads are.shallow stops)
+never_read : {A : Type 0} (domain problem : List ℕ) (parts : Parts) (refusal : _) → AreTakenAs domain problem parts → FirstFault domain problem refusal → A
+never_read domain problem parts refusal are stops = absurd (spelled_is_faultless domain problem parts refusal are.spelled are.shallow stops)
 
 says_one : {A : Type 0} (engine : List ℕ) (e : Engine) (error : EngineError) → engine_of engine ≡ Ok e → engine_of engine ≡ Err error → A
 says_one engine e error is says = cc
@@ -42,10 +42,10 @@ says_one engine e error is says = cc
 same_engine : (engine : List ℕ) (e f : Engine) → engine_of engine ≡ Ok e → engine_of engine ≡ Ok f → e ≡ f
 same_engine engine e f is says = cc
 
-never_fits : {A : Type 0} (domain problem engine : List ℕ) (parts others : Parts) → AreReadAs domain problem parts → AreReadAs domain problem others
+never_fits : {A : Type 0} (domain problem engine : List ℕ) (parts others : Parts) → AreTakenAs domain problem parts → AreTakenAs domain problem others
     → NoChain engine parts → AChainFits engine others → A
 never_fits domain problem engine parts others are so none fit =
-    let same : parts ≡ others = problem_one domain problem parts others are.reads so.reads in
+    let same : parts ≡ others = one_is_spelled domain problem parts others are.spelled so.spelled in
     let one : none.engine_is ≡ fit.engine_is = same_engine engine none.engine_is fit.engine_is none.says fit.says in
     let never : fits (has none.engine_is.features.0) (carries parts) fit.chain ≡ false = none.none fit.chain fit.over in
     let fitting : fits (has none.engine_is.features.0) (carries parts) fit.chain ≡ true = rw (one, same) fit.fitting in
@@ -58,27 +58,27 @@ other_file domain problem place at reason why name word one other = (let same = 
 one_due : (domain problem engine : List ℕ) (s t : Status) → IsDue domain problem engine s → IsDue domain problem engine t → s ≡ t
 one_due d p e _ _ (refused_domain place reason name f) (refused_domain at why word g) = refl
 one_due d p e _ _ (refused_domain place reason name f) (refused_problem at why word g) = other_file d p place at reason why name word f g
-one_due d p e _ _ (refused_domain place reason name f) (refused_engine error read says) = never_read d p read.parts _ read.reads f
+one_due d p e _ _ (refused_domain place reason name f) (refused_engine parts error are says) = never_read d p parts _ are f
 one_due d p e _ _ (refused_domain place reason name f) (unfit parts are none) = never_read d p parts _ are f
 one_due d p e _ _ (refused_domain place reason name f) (done parts are fit) = never_read d p parts _ are f
 one_due d p e _ _ (refused_problem place reason name f) (refused_domain at why word g) = other_file d p at place why reason word name g f
 one_due d p e _ _ (refused_problem place reason name f) (refused_problem at why word g) = refl
-one_due d p e _ _ (refused_problem place reason name f) (refused_engine error read says) = never_read d p read.parts _ read.reads f
+one_due d p e _ _ (refused_problem place reason name f) (refused_engine parts error are says) = never_read d p parts _ are f
 one_due d p e _ _ (refused_problem place reason name f) (unfit parts are none) = never_read d p parts _ are f
 one_due d p e _ _ (refused_problem place reason name f) (done parts are fit) = never_read d p parts _ are f
-one_due d p e _ _ (refused_engine error read says) (refused_domain at why word g) = never_read d p read.parts _ read.reads g
-one_due d p e _ _ (refused_engine error read says) (refused_problem at why word g) = never_read d p read.parts _ read.reads g
-one_due d p e _ _ (refused_engine error read says) (refused_engine other reads said) = refl
-one_due d p e _ _ (refused_engine error read says) (unfit parts are none) = says_one e none.engine_is error none.says says
-one_due d p e _ _ (refused_engine error read says) (done parts are fit) = says_one e fit.engine_is error fit.says says
+one_due d p e _ _ (refused_engine parts error are says) (refused_domain at why word g) = never_read d p parts _ are g
+one_due d p e _ _ (refused_engine parts error are says) (refused_problem at why word g) = never_read d p parts _ are g
+one_due d p e _ _ (refused_engine parts error are says) (refused_engine others other so said) = refl
+one_due d p e _ _ (refused_engine parts error are says) (unfit parts are none) = says_one e none.engine_is error none.says says
+one_due d p e _ _ (refused_engine parts error are says) (done parts are fit) = says_one e fit.engine_is error fit.says says
 one_due d p e _ _ (unfit parts are none) (refused_domain at why word g) = never_read d p parts _ are g
 one_due d p e _ _ (unfit parts are none) (refused_problem at why word g) = never_read d p parts _ are g
-one_due d p e _ _ (unfit parts are none) (refused_engine error read says) = says_one e none.engine_is error none.says says
+one_due d p e _ _ (unfit parts are none) (refused_engine parts error are says) = says_one e none.engine_is error none.says says
 one_due d p e _ _ (unfit parts are none) (unfit others so never) = refl
 one_due d p e _ _ (unfit parts are none) (done others so fit) = never_fits d p e parts others are so none fit
 one_due d p e _ _ (done parts are fit) (refused_domain at why word g) = never_read d p parts _ are g
 one_due d p e _ _ (done parts are fit) (refused_problem at why word g) = never_read d p parts _ are g
-one_due d p e _ _ (done parts are fit) (refused_engine error read says) = says_one e fit.engine_is error fit.says says
+one_due d p e _ _ (done parts are fit) (refused_engine parts error are says) = says_one e fit.engine_is error fit.says says
 one_due d p e _ _ (done parts are fit) (unfit others so none) = never_fits d p e others parts so are none fit
 one_due d p e _ _ (done parts are fit) (done others so does) = refl
 
@@ -127,6 +127,9 @@ no_back (Some command.Pipeline) is other = absurd is
 no_back (Some command.Validate) is other = absurd is
 no_back (Some command.Back) is other = absurd is
 
+taken : (domain problem : List ℕ) (parts : Parts) → AreReadAs domain problem parts → AreTakenAs domain problem parts
+taken domain problem parts are = record { spelled = read_is_spelled domain problem parts are.reads; shallow = are.shallow }
+
 module _ (words : List (List ℕ)) (files : Files) (is : IsCompile (command_of words)) where
   due_at : (domain problem engine : List ℕ) (status : Status) → AreInputs words domain problem engine files → IsDue domain problem engine status
       → IsDueAt words files status
@@ -144,7 +147,7 @@ module _ (words : List (List ℕ)) (files : Files) (is : IsCompile (command_of w
   outputs_due : (problem : Parts) (outputs : List _) → AreOutputs words (Some files) problem outputs → IsDueAt words files Done
   outputs_due problem outputs are =
       let chosen = are.whole.chosen in
-      due_at are.domain are.source are.engine Done are.holds (done problem are.reads
+      due_at are.domain are.source are.engine Done are.holds (done problem (taken are.domain are.source problem are.reads)
       (record { engine_is = chosen.engine_is; says = chosen.says; chain = are.map.stages.stages; over = chosen.best.over; fitting = chosen.best.fitting }))
 
   tells_due : (a : Answer) (put : Bool) → IsOf (command_of words) a → Tells words a files
@@ -159,15 +162,15 @@ module _ (words : List (List ℕ)) (files : Files) (is : IsCompile (command_of w
       due_at tells.domain tells.problem tells.third ProblemRefused tells.held (refused_problem place reason name tells.says)
   tells_due (answer.Unread unread.Memory) put of tells compiles = tt
   tells_due (answer.Unread unread.Toml) put of tells compiles =
-      due_at tells.domain tells.problem tells.third EngineRefused tells.held (refused_engine unread.Toml tells.says.read tells.says.says)
+      due_at tells.domain tells.problem tells.third EngineRefused tells.held (refused_engine tells.says.read.parts unread.Toml (taken tells.domain tells.problem _ tells.says.read.reads) tells.says.says)
   tells_due (answer.Unread (unread.UnknownKey key)) put of tells compiles =
-      due_at tells.domain tells.problem tells.third EngineRefused tells.held (refused_engine (unread.UnknownKey key) tells.says.read tells.says.says)
+      due_at tells.domain tells.problem tells.third EngineRefused tells.held (refused_engine tells.says.read.parts (unread.UnknownKey key) (taken tells.domain tells.problem _ tells.says.read.reads) tells.says.says)
   tells_due (answer.Unread (unread.NoKey key)) put of tells compiles =
-      due_at tells.domain tells.problem tells.third EngineRefused tells.held (refused_engine (unread.NoKey key) tells.says.read tells.says.says)
+      due_at tells.domain tells.problem tells.third EngineRefused tells.held (refused_engine tells.says.read.parts (unread.NoKey key) (taken tells.domain tells.problem _ tells.says.read.reads) tells.says.says)
   tells_due (answer.Unread (unread.WrongType key)) put of tells compiles =
-      due_at tells.domain tells.problem tells.third EngineRefused tells.held (refused_engine (unread.WrongType key) tells.says.read tells.says.says)
+      due_at tells.domain tells.problem tells.third EngineRefused tells.held (refused_engine tells.says.read.parts (unread.WrongType key) (taken tells.domain tells.problem _ tells.says.read.reads) tells.says.says)
   tells_due (answer.Unread (unread.UnknownFeature word)) put of tells compiles =
-      due_at tells.domain tells.problem tells.third EngineRefused tells.held (refused_engine (unread.UnknownFeature word) tells.says.read tells.says.says)
+      due_at tells.domain tells.problem tells.third EngineRefused tells.held (refused_engine tells.says.read.parts (unread.UnknownFeature word) (taken tells.domain tells.problem _ tells.says.read.reads) tells.says.says)
   tells_due (answer.Judged verdict) put of tells compiles = no_validate (command_of words) is of
   tells_due (answer.Unspelled place) put of tells compiles = no_validate (command_of words) is of
   tells_due (answer.TooLarge number) put of tells compiles = no_validate (command_of words) is of
@@ -178,7 +181,7 @@ module _ (words : List (List ℕ)) (files : Files) (is : IsCompile (command_of w
   tells_due (answer.Stopped (stop.ReadFault at)) put of tells compiles = tt
   tells_due (answer.Stopped (stop.WriteFault at)) put of tells compiles = tt
   tells_due (answer.Stopped stop.NoPipeline) put of tells compiles =
-      due_at tells.domain tells.problem tells.third NoPipeline tells.held (unfit tells.says.parts tells.says.reads tells.says.none)
+      due_at tells.domain tells.problem tells.third NoPipeline tells.held (unfit tells.says.parts (taken tells.domain tells.problem _ tells.says.reads) tells.says.none)
   tells_due (answer.Stopped (stop.InputTooLarge at)) put of tells compiles = tt
 
   caused : (new : Option Files) (status : Status) (before now : ℕ) (old_text new_text : Option (List ℕ))

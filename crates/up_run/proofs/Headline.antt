@@ -18,6 +18,7 @@ use Rattle.up_top.specs.declared.command.Command.TheVariants as command
 use Rattle.up_top.specs.Cause.{IsCompile, HasThird}
 use Rattle.up_top.specs.Words.{word_at, command_of}
 use Rattle.up_top.specs.Run.{AreOutputs, CompilesDone, held_after}
+use Rattle.reading_laws.proofs.Spelled.{read_is_spelled}
 use Rattle.up_run.specs.Headline.{Headline}
 use Rattle.up_run.proofs.Apart.{compile_apart}
 
@@ -82,7 +83,7 @@ made read_well written_read words files problem outputs is are =
         problem = are.source;
         holds_domain = are.holds.sources.holds_domain.0;
         holds_problem = are.holds.sources.holds_problem.0;
-        reads = are.reads.reads;
+        spelled = read_is_spelled are.domain are.source problem are.reads.reads;
       };
       holds_engine = record { text = are.engine; holds = (are.holds.holds_third (third_read (command_of words) is)).0; says = engine.says };
       holds_written = record {
@@ -92,7 +93,7 @@ made read_well written_read words files problem outputs is are =
             kept (word_at words 6) (word_at words 4) map second names.third_first ∙ kept (word_at words 5) (word_at words 4) source first names.second_first
             ∙ written (word_at words 4) domain files;
         holds_problem = kept (word_at words 6) (word_at words 5) map second names.third_second ∙ written (word_at words 5) source first;
-        reads = written_read problem (read_well are.domain are.source problem are.reads.reads);
+        spelled = read_is_spelled domain source problem (written_read problem (read_well are.domain are.source problem are.reads.reads));
       };
       holds_map = record { text = map; holds = written (word_at words 6) map second; spelled = are.spelled };
       accepted = best_accepts _ _ _ engine.best;

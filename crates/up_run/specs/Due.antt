@@ -10,15 +10,21 @@ use Rattle.up_compiler.specs.declared.id.CompilerId.{CompilerId}
 use Rattle.up_phrase.specs.declared.reason.Reason.{Reason}
 use Rattle.up_check.specs.declared.refusal.File.TheVariants.{Domain, Problem}
 use Rattle.up_check.specs.declared.refusal.ReadError.TheVariants.{Refused}
-use Rattle.up_check.specs.Passes.{FirstFault}
+use Rattle.up_check.specs.Passes.{AreShallow, FirstFault}
+use Rattle.reading_laws.specs.Spelled.{TextsSpell}
 use Rattle.up_pipeline.specs.declared.engine.Engine.{Engine}
 use Rattle.up_pipeline.specs.declared.engine.EngineError.{EngineError}
 use Rattle.up_pipeline.specs.Engine.{engine_of}
 use Rattle.up_pipeline.specs.Chains.{IsOver, fits}
 use Rattle.up_top.specs.declared.status.Status.{Status}
 use Rattle.up_top.specs.declared.status.Status.TheVariants.{Done, Memory, DomainRefused, ProblemRefused, EngineRefused, NoPipeline}
-use Rattle.up_top.specs.Inputs.{AreRead, AreReadAs, NoChain}
+use Rattle.up_top.specs.Inputs.{NoChain}
 use Rattle.up_top.specs.Words.{word_at}
+
+-- two texts spell this problem, and open no bracket too deep
+pub record AreTakenAs (domain problem : List ℕ) (parts : Parts) : Type 0 where
+  pub spelled : TextsSpell domain problem parts
+  pub shallow : AreShallow domain problem
 
 -- a chain of the compilers leads from the problem to the engine that the text says
 pub record AChainFits (engine : List ℕ) (problem : Parts) : Type 0 where
@@ -34,9 +40,10 @@ pub data IsDue (domain problem engine : List ℕ) : Status → Type 0 where
       → IsDue domain problem engine DomainRefused
   refused_problem : (place : Place) (reason : Reason) (name : Option Name) → FirstFault domain problem (Refused Problem place reason name)
       → IsDue domain problem engine ProblemRefused
-  refused_engine : (error : EngineError) → AreRead domain problem → engine_of engine ≡ Err error → IsDue domain problem engine EngineRefused
-  unfit : (parts : Parts) → AreReadAs domain problem parts → NoChain engine parts → IsDue domain problem engine NoPipeline
-  done : (parts : Parts) → AreReadAs domain problem parts → AChainFits engine parts → IsDue domain problem engine Done
+  refused_engine : (parts : Parts) (error : EngineError) → AreTakenAs domain problem parts → engine_of engine ≡ Err error
+      → IsDue domain problem engine EngineRefused
+  unfit : (parts : Parts) → AreTakenAs domain problem parts → NoChain engine parts → IsDue domain problem engine NoPipeline
+  done : (parts : Parts) → AreTakenAs domain problem parts → AChainFits engine parts → IsDue domain problem engine Done
 
 -- the same of the texts that the first three words name
 pub record IsDueAt (words : List (List ℕ)) (files : Files) (status : Status) : Type 0 where

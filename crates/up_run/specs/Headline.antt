@@ -2,7 +2,7 @@
 use Rattle.std.specs.Prelude.{◌≡◌, true, ℕ, List, Some, Ok}
 use Rattle.up_store.specs.Outside.{Files}
 use Rattle.up_tree.specs.declared.problem.Parts.{Parts}
-use Rattle.up_check.specs.Passes.{Reads}
+use Rattle.reading_laws.specs.Spelled.{TextsSpell}
 use Rattle.up_kind.specs.Carried.{carries}
 use Rattle.up_kind.specs.Features.{has}
 use Rattle.up_pipeline.specs.declared.engine.Engine.{Engine}
@@ -17,13 +17,13 @@ use Rattle.up_top.specs.Words.{word_at}
 abbrev pub Holds : Files → List (List ℕ) → ℕ → List ℕ → Type 0
 Holds files words at text = files (word_at words at) ≡ Some text
 
--- the words at two places name a domain text and a problem text that read as this problem
+-- the words at two places name a domain text and a problem text that spell this problem
 pub record HoldsProblem (files : Files) (words : List (List ℕ)) (first second : ℕ) (parts : Parts) : Type 0 where
   pub domain : List ℕ
   pub problem : List ℕ
   pub holds_domain : Holds files words first domain
   pub holds_problem : Holds files words second problem
-  pub reads : Reads domain problem parts
+  pub spelled : TextsSpell domain problem parts
 
 -- the word at a place names a text that says this engine
 pub record HoldsEngine (files : Files) (words : List (List ℕ)) (at : ℕ) (engine : Engine) : Type 0 where
