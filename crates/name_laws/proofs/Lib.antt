@@ -1,4 +1,5 @@
 pub mod Declares
+pub mod TypeTables
 pub mod DeclaredTypes
 pub mod Verdicts
 pub mod Nodes

@@ -1,4 +1,4 @@
--- What is declared is read, and what is read is declared: types, objects, predicates, functions, and all that a domain declares.
+-- What is declared is read, and what is read is declared: objects, predicates, functions, and all that a domain declares.
 use Rattle.std.specs.Prelude.{◌≡◌, List}
 use Rattle.pddl_lex.specs.Verdicts.{fine}
 use Rattle.pddl_parse.specs.declared.raw.DomainForm.{DomainForm}
@@ -6,19 +6,9 @@ use Rattle.pddl_parse.specs.declared.raw.RawGroup.{RawGroup}
 use Rattle.pddl_parse.specs.declared.raw.RawSymbol.{RawSymbol}
 use Rattle.pddl_parse.specs.declared.raw.RawFunctions.{RawFunctions}
 use Rattle.up_phrase.specs.Declarations.{Declarations}
-use Rattle.up_declare.specs.Types.{Types, types}
 use Rattle.up_declare.specs.Declaring.{with_objects, with_predicates, with_functions}
 use Rattle.up_check.specs.Domains.{declared}
-use Rattle.name_laws.specs.DeclaredTypes.{DeclareTypes}
 use Rattle.name_laws.specs.Declares.{DeclareObjects, DeclarePredicates, DeclareFunctions, DeclareAll}
-
--- types that are declared are read so
-abbrev pub DeclaredTypesAreRead : Type 0
-DeclaredTypesAreRead = (groups : List RawGroup) (all : Types) → DeclareTypes groups all → types groups ≡ fine all
-
--- types that are read are declared so
-abbrev pub ReadTypesAreDeclared : Type 0
-ReadTypesAreDeclared = (groups : List RawGroup) (all : Types) → types groups ≡ fine all → DeclareTypes groups all
 
 -- objects that are declared are read so
 abbrev pub DeclaredObjectsAreRead : Type 0

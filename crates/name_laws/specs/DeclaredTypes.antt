@@ -1,54 +1,48 @@
 -- What types a domain's list of types declares, said apart from how it is checked.
-use Rattle.std.specs.Prelude.{◌≡◌, true, false, List, [], ◌∷◌, ◌++◌, Some, None}
+use Rattle.std.specs.Prelude.{◌≡◌, ◌≢◌, List, [], ◌∷◌, ◌++◌, map}
+use Rattle.up_text.specs.Lists.{Member}
 use Rattle.up_text.specs.declared.name.Name.{Name}
-use Rattle.pddl_parse.specs.declared.raw.Ident.{Ident}
 use Rattle.pddl_parse.specs.declared.raw.RawGroup.{RawGroup}
-use Rattle.up_phrase.specs.Named.{object, is_object}
+use Rattle.up_phrase.specs.Named.{object}
 use Rattle.up_phrase.specs.Scopes.{type_named}
-use Rattle.up_declare.specs.Types.{Types, parent_in}
 
--- a type's chain of parents reaches `object`: it goes round through no type
-pub data ReachesObject (listed : Types) : Name → Type 0 where
-  -- what isn't listed is `object`, or stands only as a parent, under `object`
-  unlisted : (name : Name) → parent_in listed name ≡ None → ReachesObject listed name
-  under_parent : (name parent : Name) → parent_in listed name ≡ Some parent → ReachesObject listed parent → ReachesObject listed name
+-- types, each with its parent
+abbrev pub Parents : Type 0
+Parents = List (Name × Name)
 
--- names are listed under one parent, behind the types that are listed before; `all` are those that the whole text lists
-pub data ListNames (all : Types) (parent : Name) : List Ident → Types → Types → Type 0 where
-  no_names : (types : Types) → ListNames all parent [] types types
-  -- a new type, whose chain of parents reaches `object`
-  new_name : (it : Ident) (others : List Ident) (types more : Types)
-      → is_object it.name ≡ false → parent_in types it.name ≡ None → ReachesObject all it.name
-      → ListNames all parent others (types ++ (it.name, parent) ∷ []) more → ListNames all parent (it ∷ others) types more
-  -- a type may be listed again under the same parent
-  known_name : (it : Ident) (others : List Ident) (types more : Types)
-      → is_object it.name ≡ false → parent_in types it.name ≡ Some parent
-      → ListNames all parent others types more → ListNames all parent (it ∷ others) types more
-  -- `object` may be listed under itself
-  top_name : (it : Ident) (others : List Ident) (types more : Types)
-      → is_object it.name ≡ true → is_object parent ≡ true
-      → ListNames all parent others types more → ListNames all parent (it ∷ others) types more
+-- the types that are listed, in their order, each with the parent that is stated, or `object` where none is
+abbrev pub listed : List RawGroup → Parents
+listed [] = []
+listed (group ∷ others) = map (λ it. (it.name, type_named group.of)) group.names ++ listed others
 
--- the groups of a typed list, each under the parent that is stated, or `object` where none is
-pub data ListGroups (all : Types) : List RawGroup → Types → Types → Type 0 where
-  no_groups : (types : Types) → ListGroups all [] types types
-  more_groups : (group : RawGroup) (others : List RawGroup) (types inner more : Types)
-      → ListNames all (type_named group.of) group.names types inner → ListGroups all others inner more
-      → ListGroups all (group ∷ others) types more
+-- the parents that are stated, in their order, as types under `object`
+abbrev pub stated : List RawGroup → Parents
+stated groups = map (λ group. (type_named group.of, object)) groups
 
--- behind the listed types stand those that are named only as parents, under `object`
-pub data AddParents : List RawGroup → Types → Types → Type 0 where
-  no_parents : (types : Types) → AddParents [] types types
-  top_parent : (group : RawGroup) (others : List RawGroup) (types more : Types)
-      → is_object (type_named group.of) ≡ true → AddParents others types more → AddParents (group ∷ others) types more
-  known_parent : (group : RawGroup) (others : List RawGroup) (types more : Types) (above : Name)
-      → parent_in types (type_named group.of) ≡ Some above → AddParents others types more → AddParents (group ∷ others) types more
-  new_parent : (group : RawGroup) (others : List RawGroup) (types more : Types)
-      → is_object (type_named group.of) ≡ false → parent_in types (type_named group.of) ≡ None
-      → AddParents others (types ++ (type_named group.of, object) ∷ []) more → AddParents (group ∷ others) types more
+-- a type's chain of parents reaches `object`
+pub data ReachesObject (types : Parents) : Name → Type 0 where
+  at_object : ReachesObject types object
+  -- a type that stands only as a parent stands under `object`
+  unlisted : (name : Name) → ((parent : Name) → ¬ Member (name, parent) types) → ReachesObject types name
+  under_parent : (name parent : Name) → Member (name, parent) types → ReachesObject types parent → ReachesObject types name
 
--- a list of types declares types with their parents: those that it lists, and those that it names only as parents
-pub record DeclareTypes (groups : List RawGroup) (types : Types) : Type 0 where
-  pub listed : Types
-  pub names : ListGroups listed groups [] listed
-  pub parents : AddParents groups listed types
+-- types but `object`, each once, in the order in which they first stand; those of `before` stand already
+pub data EachOnce : Parents → Parents → Parents → Type 0 where
+  no_types : (before : Parents) → EachOnce before [] []
+  object_itself : (before : Parents) (parent : Name) (types kept : Parents)
+      → EachOnce before types kept → EachOnce before ((object, parent) ∷ types) kept
+  repeated : (before : Parents) (name parent : Name) (types kept : Parents)
+      → Member name (map (λ type. type.0) before) → EachOnce before types kept → EachOnce before ((name, parent) ∷ types) kept
+  first : (before : Parents) (name parent : Name) (types kept : Parents)
+      → name ≢ object → (¬ Member name (map (λ type. type.0) before)) → EachOnce (before ++ (name, parent) ∷ []) types kept
+      → EachOnce before ((name, parent) ∷ types) ((name, parent) ∷ kept)
+
+-- A list of types declares types with their parents: those that are listed, and behind them those that stand only as parents.
+pub record DeclareTypes (groups : List RawGroup) (types : Parents) : Type 0 where
+  -- a type may be listed again, but not under another parent
+  pub one_parent : (name one two : Name) → Member (name, one) (listed groups) → Member (name, two) (listed groups) → one ≡ two
+  -- `object` may be listed, but under no other type
+  pub object_on_top : (parent : Name) → Member (object, parent) (listed groups) → parent ≡ object
+  -- no chain of parents goes round
+  pub no_cycle : (name parent : Name) → Member (name, parent) (listed groups) → ReachesObject (listed groups) name
+  pub each_once : EachOnce [] (listed groups ++ stated groups) types

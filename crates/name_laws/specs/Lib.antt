@@ -1,6 +1,7 @@
 pub mod DeclareLaws
 pub mod Declares
 pub mod DeclaredTypes
+pub mod DeclaredTypeLaws
 pub mod Phrases
 pub mod Initial
 pub mod Constraints

@@ -1,10 +1,4 @@
-ghost use Rattle.name_laws.specs.DeclareLaws.{DeclarationsAreRead, DeclaredObjectsAreRead, DeclaredSymbolsAreRead, DeclaredTypesAreRead, ReadDeclarationsAreDeclared, ReadObjectsAreDeclared, ReadSymbolsAreDeclared, ReadTypesAreDeclared};
-
-/// A law: a typed list declares types exactly as it is read.
-pub fn types_are_read()
-    ensures declared { DeclaredTypesAreRead }
-    ensures read { ReadTypesAreDeclared }
-{}
+ghost use Rattle.name_laws.specs.DeclareLaws.{DeclarationsAreRead, DeclaredObjectsAreRead, DeclaredSymbolsAreRead, ReadDeclarationsAreDeclared, ReadObjectsAreDeclared, ReadSymbolsAreDeclared};
 
 /// A law: a typed list declares constants or objects exactly as it is read.
 pub fn objects_are_read()
