@@ -10,7 +10,7 @@ import tempfile
 
 sys.dont_write_bytecode = True
 from measure import measured, program
-from roads import DOMAIN, problem
+from roads import DOMAIN, plan, problem
 
 PLACES = 10
 
@@ -19,11 +19,6 @@ def map_text(entries):
     """A map whose actions are `drive-0`, `drive-1`, ..: each drives."""
     lines = "".join(f"action drive-{k} 2 keep drive $1 $2\n" for k in range(entries))
     return f"up-map 1\nchain overlaps\n{lines}end\n"
-
-
-def plan(steps, name):
-    """Round the ring of places, where `name` gives the k-th step's action."""
-    return "".join(f"({name(k)} place-{k % PLACES} place-{(k + 1) % PLACES})\n" for k in range(steps))
 
 
 def main():
@@ -35,11 +30,11 @@ def main():
         write("d", DOMAIN)
         for steps in (10_000, 100_000):
             write("p", problem(PLACES + 1, PLACES, steps % PLACES))
-            size = write("m", map_text(steps)) + write("plan", plan(steps, lambda k: f"drive-{k}"))
+            size = write("m", map_text(steps)) + write("plan", plan(steps, PLACES, lambda k: f"drive-{k}"))
             seconds, _, answer = measured(compiler, ["back", "d", "p", "m", "plan", "out"], folder)
             if answer != b"valid\n":
                 sys.exit(f"{steps} steps: {answer!r}")
-            if read("out") != plan(steps, lambda k: "drive"):
+            if read("out") != plan(steps, PLACES):
                 sys.exit(f"{steps} steps: another plan is written")
             alone, _, _ = measured(compiler, ["validate", "d", "p", "out"], folder)
             rows.append((seconds, alone))

@@ -16,3 +16,8 @@ def problem(facts, objects, goal):
         f"(define (problem ring) (:domain roads)\n (:objects {' '.join(names)})\n (:init (at place-0)\n  "
         + "\n  ".join(roads) + f")\n (:goal (at {names[goal]})))\n"
     )
+
+
+def plan(steps, places, action=lambda step: "drive"):
+    """Round the ring of `places`, road by road, where `action` names what a step does."""
+    return "".join(f"({action(k)} place-{k % places} place-{(k + 1) % places})\n" for k in range(steps))

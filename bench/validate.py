@@ -9,12 +9,7 @@ import tempfile
 
 sys.dont_write_bytecode = True
 from measure import measured, program
-from roads import DOMAIN, problem
-
-
-def plan(steps, places):
-    """Round the ring of `places`, road by road."""
-    return "".join(f"(drive place-{k % places} place-{(k + 1) % places})\n" for k in range(steps))
+from roads import DOMAIN, plan, problem
 
 
 def main():
