@@ -13,7 +13,7 @@ from roads import DOMAIN, problem
 
 
 def main():
-    compiler = program("up_main")
+    compiler = program("nadvorzet")
     rows = []
     with tempfile.TemporaryDirectory() as folder:
         write = lambda name, text: open(os.path.join(folder, name), "w").write(text)

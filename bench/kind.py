@@ -51,7 +51,7 @@ def problem():
 
 
 def main():
-    compiler = program("up_main")
+    compiler = program("nadvorzet")
     with tempfile.TemporaryDirectory() as folder:
         write = lambda name, text: open(os.path.join(folder, name), "w").write(text)
         write("p", problem())

@@ -22,7 +22,7 @@ def map_text(entries):
 
 
 def main():
-    compiler = program("up_main")
+    compiler = program("nadvorzet")
     rows = []
     with tempfile.TemporaryDirectory() as folder:
         write = lambda name, text: open(os.path.join(folder, name), "w").write(text)

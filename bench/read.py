@@ -32,7 +32,7 @@ def problem(facts, objects):
 
 
 def main():
-    reader = program("up_main")
+    reader = program("nadvorzet")
     rows = []
     with tempfile.TemporaryDirectory() as folder:
         theirs = yardstick("read", folder)

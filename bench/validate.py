@@ -13,7 +13,7 @@ from roads import DOMAIN, plan, problem
 
 
 def main():
-    compiler = program("up_main")
+    compiler = program("nadvorzet")
     times = []
     with tempfile.TemporaryDirectory() as folder:
         write = lambda name, text: open(os.path.join(folder, name), "w").write(text)

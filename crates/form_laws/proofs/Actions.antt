@@ -4,7 +4,7 @@ use Rattle.up_text.specs.declared.place.Place.{Place}
 use Rattle.up_text.specs.Names.{IsName}
 use Rattle.up_text.specs.Lists.{Every}
 use Rattle.pddl_lex.specs.declared.tree.Sexp.{Sexp}
-use Rattle.pddl_lex.specs.Verdicts.{fine, faulty, over, over_two}
+use Rattle.pddl_lex.specs.Parses.{parsed, rejected, over, over_two}
 use Rattle.pddl_parse.specs.declared.raw.Ident.{Ident}
 use Rattle.pddl_parse.specs.declared.raw.RawAction.{RawAction}
 use Rattle.pddl_parse.specs.declared.action.ActionKey.{ActionKey}
@@ -18,9 +18,9 @@ use Rattle.pddl_parse.specs.TypedLists.{variables}
 use Rattle.pddl_parse.specs.Effects.{whole_effect}
 use Rattle.pddl_parse.specs.Actions.{condition, no_keys, fresh_key, taken, lacks_value, part_of, part, alone, parts, put, filled, bare, as_action, action}
 use Rattle.token_laws.specs.Literals.{HasLiteralLeaves}
-use Rattle.read_laws.specs.Agreement.{IfFine}
-use Rattle.read_laws.specs.Literal.{HaveNames, IsWritten, IsWrittenEffect, IsWrittenAction}
-use Rattle.form_laws.proofs.Verdicts.{fine_over, fine_two, fine_behind}
+use Rattle.wellformed_phrases.specs.Agreement.{IfFine}
+use Rattle.wellformed_phrases.specs.Literal.{HaveNames, IsWritten, IsWrittenEffect, IsWrittenAction}
+use Rattle.form_laws.proofs.Parses.{parsed_over, parsed_two, parsed_behind}
 use Rattle.form_laws.proofs.Typed.{IsNamed, ident_is, AreGroups, variables_are}
 use Rattle.form_laws.proofs.Conditions as conditions
 use Rattle.form_laws.proofs.Conditions.{condition_is}
@@ -39,23 +39,23 @@ record AreParts (it : ActionParts) : Type 0 where
   effect : IsWrittenEffect it.effect
 
 part_of_is : (k : ActionKey) (tree : Sexp) → HasLiteralLeaves tree → IfFine (part_of k tree) IsPart
-part_of_is key.Parameters tree have = fine_over AreGroups IsPart chosen.Parameters (variables tree) (λ groups are. are.0) (variables_are tree)
-part_of_is key.Precondition tree have = fine_over IsWritten IsPart chosen.Precondition (condition tree) (λ f is. is) (condition_is tree have)
-part_of_is key.Effect tree have = fine_over IsWrittenEffect IsPart chosen.Effect (whole_effect tree) (λ e is. is) (whole_effect_is tree have)
+part_of_is key.Parameters tree have = parsed_over AreGroups IsPart chosen.Parameters (variables tree) (λ groups are. are.0) (variables_are tree)
+part_of_is key.Precondition tree have = parsed_over IsWritten IsPart chosen.Precondition (condition tree) (λ f is. is) (condition_is tree have)
+part_of_is key.Effect tree have = parsed_over IsWrittenEffect IsPart chosen.Effect (whole_effect tree) (λ e is. is) (whole_effect_is tree have)
 
 part_is : (v : Read ActionKey) (tree : Sexp) → HasLiteralLeaves tree → IfFine (part v tree) IsPart
-part_is (fine k) tree have = part_of_is k tree have
-part_is (faulty f fs) tree have = tt
+part_is (parsed k) tree have = part_of_is k tree have
+part_is (rejected f fs) tree have = tt
 
 alone_is : (v : Read ActionKey) (place : Place) → IfFine (alone v place) (Every IsPart)
-alone_is (fine k) place = tt
-alone_is (faulty f fs) place = tt
+alone_is (parsed k) place = tt
+alone_is (rejected f fs) place = tt
 
 parts_are : (place : Place) (keys : ActionKeys) (items : List Sexp) → Every HasLiteralLeaves items → IfFine (parts place keys items) (Every IsPart)
 parts_are place keys [] have = tt
 parts_are place keys (key ∷ []) have = alone_is (fresh_key keys key) place
 parts_are place keys (key ∷ value ∷ rest) have =
-    fine_two IsPart (Every IsPart) (Every IsPart) (λ p ps. p ∷ ps) (part (fresh_key keys key) value) (parts place (taken keys (fresh_key keys key)) rest)
+    parsed_two IsPart (Every IsPart) (Every IsPart) (λ p ps. p ∷ ps) (part (fresh_key keys key) value) (parts place (taken keys (fresh_key keys key)) rest)
     (λ p ps is are. (is, are)) (part_is (fresh_key keys key) value have.1.0) (parts_are place (taken keys (fresh_key keys key)) rest have.1.1)
 
 put_is : (it : ActionParts) (p : ActionPart) → AreParts it → IsPart p → AreParts (put it p)
@@ -78,7 +78,7 @@ pub action_is : (place : Place) (items : List Sexp) → Every HasLiteralLeaves i
 action_is place [] have = tt
 action_is place (name ∷ rest) have =
     let read = over_two (λ it ps. filled (bare it) ps) (ident name) (parts place no_keys rest) in
-    fine_behind IsRead (lacking (lacks_value no_keys rest) place) (over as_action read)
-    (fine_over AreParts IsRead as_action read (λ it are. (are.named, record { params = are.params; pre = are.pre; effect = are.effect }))
-    (fine_two IsNamed (Every IsPart) AreParts (λ it ps. filled (bare it) ps) (ident name) (parts place no_keys rest)
+    parsed_behind IsRead (lacking (lacks_value no_keys rest) place) (over as_action read)
+    (parsed_over AreParts IsRead as_action read (λ it are. (are.named, record { params = are.params; pre = are.pre; effect = are.effect }))
+    (parsed_two IsNamed (Every IsPart) AreParts (λ it ps. filled (bare it) ps) (ident name) (parts place no_keys rest)
     (λ it ps named are. filled_is (bare it) ps (bare_is it named) are) (ident_is name) (parts_are place no_keys rest have.1)))

@@ -4,7 +4,7 @@ use Rattle.std.specs.Prelude.{⊤}
 use Rattle.up_text.specs.declared.place.Place.{Place}
 use Rattle.up_text.specs.Lists.{Every}
 use Rattle.pddl_lex.specs.declared.tree.Sexp.{Sexp, Leaf, Group', Row_of-Sexp, end_of-Sexp, more_of-Sexp, items-the_row-Sexp}
-use Rattle.pddl_lex.specs.Verdicts.{all, over}
+use Rattle.pddl_lex.specs.Parses.{all, over}
 use Rattle.pddl_parse.specs.declared.raw.Ident.{Ident}
 use Rattle.pddl_parse.specs.declared.raw.Relation.{Relation}
 use Rattle.pddl_parse.specs.declared.raw.RawTerm.{RawTerm}
@@ -22,9 +22,9 @@ use Rattle.pddl_parse.specs.TypedLists.{variables}
 use Rattle.pddl_parse.specs.Formulas.{head_of, quantify, by_head, in_formula, formula, formulas}
 use Rattle.up_phrase.specs.Nodes.{built}
 use Rattle.token_laws.specs.Literals.{HasLiteralLeaves, HaveLiteralLeaves}
-use Rattle.read_laws.specs.Agreement.{IfFine}
-use Rattle.read_laws.specs.Literal.{HasLiterals, IsWritten, AreWritten}
-use Rattle.form_laws.proofs.Verdicts.{every_rest, fine_over, fine_two, fine_any, fine_followed, fine_all, fine_one, fine_both, fine_or_empty, AreFine, each_is, each_as, items_have}
+use Rattle.wellformed_phrases.specs.Agreement.{IfFine}
+use Rattle.wellformed_phrases.specs.Literal.{HasLiterals, IsWritten, AreWritten}
+use Rattle.form_laws.proofs.Parses.{every_rest, parsed_over, parsed_two, parsed_any, parsed_followed, parsed_all, parsed_one, parsed_both, parsed_or_empty, AreFine, each_is, each_as, items_have}
 use Rattle.form_laws.proofs.Typed.{AreGroups, variables_are}
 use Rattle.form_laws.proofs.Terms.{term_has}
 
@@ -72,23 +72,23 @@ terms_have trees have = each_as HasLiteralLeaves HasLiterals term trees term_has
 
 by_head_is : (h : Head) (place : Place) (first : Sexp) (rest : List Sexp) (each : List (Read RawFormula)) → Every HasLiteralLeaves rest
     → AreFine IsWritten each → IfFine (by_head h place first rest each) IsWritten
-by_head_is head.And place first rest each have are = fine_over (Every IsWritten) IsWritten And (all each) and_is (fine_all IsWritten each are)
-by_head_is head.Or place first rest each have are = fine_over (Every IsWritten) IsWritten Or (all each) or_is (fine_all IsWritten each are)
+by_head_is head.And place first rest each have are = parsed_over (Every IsWritten) IsWritten And (all each) and_is (parsed_all IsWritten each are)
+by_head_is head.Or place first rest each have are = parsed_over (Every IsWritten) IsWritten Or (all each) or_is (parsed_all IsWritten each are)
 by_head_is head.Not place first rest each have are =
-    fine_followed IsWritten (over Not (one place each)) (extra (drop 1 rest))
-    (fine_over IsWritten IsWritten Not (one place each) not_is (fine_one IsWritten place each are))
+    parsed_followed IsWritten (over Not (one place each)) (extra (drop 1 rest))
+    (parsed_over IsWritten IsWritten Not (one place each) not_is (parsed_one IsWritten place each are))
 by_head_is head.Imply place first rest each have are =
-    fine_followed IsWritten (two place Imply each each) (extra (drop 2 rest)) (fine_both IsWritten IsWritten IsWritten place Imply each each imply_is are are)
+    parsed_followed IsWritten (two place Imply each each) (extra (drop 2 rest)) (parsed_both IsWritten IsWritten IsWritten place Imply each each imply_is are are)
 by_head_is (head.Quantifier q) place first rest each have are =
-    fine_followed IsWritten (two place (quantify q) (map variables rest) each) (extra (drop 2 rest))
-    (fine_both AreGroups IsWritten IsWritten place (quantify q) (map variables rest) each (quantify_is q) (each_is AreGroups variables rest variables_are) are)
+    parsed_followed IsWritten (two place (quantify q) (map variables rest) each) (extra (drop 2 rest))
+    (parsed_both AreGroups IsWritten IsWritten place (quantify q) (map variables rest) each (quantify_is q) (each_is AreGroups variables rest variables_are) are)
 by_head_is (head.Compare r) place first rest each have are =
-    fine_followed IsWritten (two place (λ a b. Compare place r a b) (map term rest) (map term rest)) (extra (drop 2 rest))
-    (fine_both HasLiterals HasLiterals IsWritten place (λ a b. Compare place r a b) (map term rest) (map term rest) (compare_is place r)
+    parsed_followed IsWritten (two place (λ a b. Compare place r a b) (map term rest) (map term rest)) (extra (drop 2 rest))
+    (parsed_both HasLiterals HasLiterals IsWritten place (λ a b. Compare place r a b) (map term rest) (map term rest) (compare_is place r)
     (terms_have rest have) (terms_have rest have))
 by_head_is head.Other place first rest each have are =
-    fine_two (λ p. ⊤) (λ ts. ⊤) IsWritten (λ p ts. Atom place p ts) (ident first) (all (map term rest)) (λ p ts named so. atom_is place p ts)
-    (fine_any (ident first)) (fine_any (all (map term rest)))
+    parsed_two (λ p. ⊤) (λ ts. ⊤) IsWritten (λ p ts. Atom place p ts) (ident first) (all (map term rest)) (λ p ts named so. atom_is place p ts)
+    (parsed_any (ident first)) (parsed_any (all (map term rest)))
 
 in_formula_is : (place : Place) (items : List Sexp) (each : List (Read RawFormula)) → Every HasLiteralLeaves items → AreFine IsWritten each
     → IfFine (in_formula place items each) IsWritten
@@ -111,4 +111,4 @@ pub formulas_written : (trees : List Sexp) → Every HasLiteralLeaves trees → 
 formulas_written trees have = each_as HasLiteralLeaves IsWritten formula trees formula_is have
 
 pub condition_is : (tree : Sexp) → HasLiteralLeaves tree → IfFine (condition tree) IsWritten
-condition_is tree have = fine_or_empty IsWritten (And []) (formula tree) tree (and_is [] tt) (formula_is tree have)
+condition_is tree have = parsed_or_empty IsWritten (And []) (formula tree) tree (and_is [] tt) (formula_is tree have)

@@ -3,7 +3,7 @@ use Rattle.std.proofs.Common.{List, [], ◌∷◌, map, drop, sym, subst}
 use Rattle.up_text.specs.declared.place.Place.{Place}
 use Rattle.up_text.specs.Lists.{Every}
 use Rattle.pddl_lex.specs.declared.tree.Sexp.{Sexp, Leaf, Group', Row_of-Sexp, end_of-Sexp, more_of-Sexp, items-the_row-Sexp}
-use Rattle.pddl_lex.specs.Verdicts.{all, over}
+use Rattle.pddl_lex.specs.Parses.{all, over}
 use Rattle.pddl_parse.specs.declared.raw.RawFormula.{RawFormula}
 use Rattle.pddl_parse.specs.declared.raw.RawGroup.{RawGroup}
 use Rattle.pddl_parse.specs.declared.raw.RawConstraint.{RawConstraint, And, Forall, Row_of-RawConstraint, end_of-RawConstraint, more_of-RawConstraint, items-the_row-RawConstraint, items_hidden-the_row-RawConstraint-0}
@@ -20,9 +20,9 @@ use Rattle.pddl_parse.specs.Formulas.{formula}
 use Rattle.pddl_parse.specs.Constraints.{constraint_head, of_one, of_two, by_constraint_head, in_constraint, constraint, constraints, whole_constraint}
 use Rattle.up_check.specs.Nodes.{built}
 use Rattle.token_laws.specs.Literals.{HasLiteralLeaves, HaveLiteralLeaves}
-use Rattle.read_laws.specs.Agreement.{IfFine}
-use Rattle.read_laws.specs.Literal.{IsWritten, IsWrittenConstraint, AreWrittenConstraints}
-use Rattle.form_laws.proofs.Verdicts.{every_rest, fine_over, fine_followed, fine_all, fine_one, fine_both, fine_or_empty, AreFine, each_is, items_have}
+use Rattle.wellformed_phrases.specs.Agreement.{IfFine}
+use Rattle.wellformed_phrases.specs.Literal.{IsWritten, IsWrittenConstraint, AreWrittenConstraints}
+use Rattle.form_laws.proofs.Parses.{every_rest, parsed_over, parsed_followed, parsed_all, parsed_one, parsed_both, parsed_or_empty, AreFine, each_is, items_have}
 use Rattle.form_laws.proofs.Typed.{AreGroups, variables_are}
 use Rattle.form_laws.proofs.Conditions.{formulas_written}
 
@@ -55,18 +55,18 @@ of_two_is paired.SometimeBefore f g is so = (is, so)
 by_head_is : (h : ConstraintHead) (place : Place) (first : Sexp) (rest : List Sexp) (each : List (Read RawConstraint)) → Every HasLiteralLeaves rest
     → AreFine IsWrittenConstraint each → IfFine (by_constraint_head h place first rest each) IsWrittenConstraint
 by_head_is head.And place first rest each have are =
-    fine_over (Every IsWrittenConstraint) IsWrittenConstraint And (all each) and_is (fine_all IsWrittenConstraint each are)
+    parsed_over (Every IsWrittenConstraint) IsWrittenConstraint And (all each) and_is (parsed_all IsWrittenConstraint each are)
 by_head_is head.Forall place first rest each have are =
-    fine_followed IsWrittenConstraint (two place (λ vars c. Forall vars c) (map variables rest) each) (extra (drop 2 rest))
-    (fine_both AreGroups IsWrittenConstraint IsWrittenConstraint place (λ vars c. Forall vars c) (map variables rest) each forall_is
+    parsed_followed IsWrittenConstraint (two place (λ vars c. Forall vars c) (map variables rest) each) (extra (drop 2 rest))
+    (parsed_both AreGroups IsWrittenConstraint IsWrittenConstraint place (λ vars c. Forall vars c) (map variables rest) each forall_is
     (each_is AreGroups variables rest variables_are) are)
 by_head_is (head.Single s) place first rest each have are =
-    fine_followed IsWrittenConstraint (over (of_one s) (one place (map formula rest))) (extra (drop 1 rest))
-    (fine_over IsWritten IsWrittenConstraint (of_one s) (one place (map formula rest)) (of_one_is s)
-    (fine_one IsWritten place (map formula rest) (formulas_written rest have)))
+    parsed_followed IsWrittenConstraint (over (of_one s) (one place (map formula rest))) (extra (drop 1 rest))
+    (parsed_over IsWritten IsWrittenConstraint (of_one s) (one place (map formula rest)) (of_one_is s)
+    (parsed_one IsWritten place (map formula rest) (formulas_written rest have)))
 by_head_is (head.Paired p) place first rest each have are =
-    fine_followed IsWrittenConstraint (two place (of_two p) (map formula rest) (map formula rest)) (extra (drop 2 rest))
-    (fine_both IsWritten IsWritten IsWrittenConstraint place (of_two p) (map formula rest) (map formula rest) (of_two_is p) (formulas_written rest have)
+    parsed_followed IsWrittenConstraint (two place (of_two p) (map formula rest) (map formula rest)) (extra (drop 2 rest))
+    (parsed_both IsWritten IsWritten IsWrittenConstraint place (of_two p) (map formula rest) (map formula rest) (of_two_is p) (formulas_written rest have)
     (formulas_written rest have))
 by_head_is head.Other place first rest each have are = tt
 
@@ -89,4 +89,4 @@ mutual
   constraints_are (more_of-Sexp tree row) have = (constraint_is tree have.0, constraints_are row have.1)
 
 pub whole_constraint_is : (tree : Sexp) → HasLiteralLeaves tree → IfFine (whole_constraint tree) IsWrittenConstraint
-whole_constraint_is tree have = fine_or_empty IsWrittenConstraint (And []) (constraint tree) tree (and_is [] tt) (constraint_is tree have)
+whole_constraint_is tree have = parsed_or_empty IsWrittenConstraint (And []) (constraint tree) tree (and_is [] tt) (constraint_is tree have)

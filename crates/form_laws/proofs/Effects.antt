@@ -5,7 +5,7 @@ use Rattle.up_text.specs.declared.place.Place.{Place}
 use Rattle.up_text.specs.Lists.{Every}
 use Rattle.pddl_lex.specs.Trees.{place_of}
 use Rattle.pddl_lex.specs.declared.tree.Sexp.{Sexp, Leaf, Group', Row_of-Sexp, end_of-Sexp, more_of-Sexp, items-the_row-Sexp}
-use Rattle.pddl_lex.specs.Verdicts.{fine, all, over}
+use Rattle.pddl_lex.specs.Parses.{parsed, all, over}
 use Rattle.pddl_parse.specs.declared.raw.RawCall.{RawCall}
 use Rattle.pddl_parse.specs.declared.raw.RawChange.{RawChange}
 use Rattle.pddl_parse.specs.declared.raw.RawFormula.{RawFormula}
@@ -23,9 +23,9 @@ use Rattle.pddl_parse.specs.Formulas.{formula}
 use Rattle.pddl_parse.specs.Effects.{in_call, call, effect_head, is_undefined, new_value, changed, by_effect_head, in_effect, effect, effects, whole_effect}
 use Rattle.up_effect.specs.Nodes.{built}
 use Rattle.token_laws.specs.Literals.{HasLiteralLeaves, HaveLiteralLeaves}
-use Rattle.read_laws.specs.Agreement.{IfFine}
-use Rattle.read_laws.specs.Literal.{HasLiterals, IsWritten, IsWrittenEffect, AreWrittenEffects}
-use Rattle.form_laws.proofs.Verdicts.{every_rest, fine_over, fine_made, fine_if, fine_followed, fine_all, fine_both, fine_or_empty, any_are, AreFine, each_is, each_as, items_have}
+use Rattle.wellformed_phrases.specs.Agreement.{IfFine}
+use Rattle.wellformed_phrases.specs.Literal.{HasLiterals, IsWritten, IsWrittenEffect, AreWrittenEffects}
+use Rattle.form_laws.proofs.Parses.{every_rest, parsed_over, parsed_made, parsed_if, parsed_followed, parsed_all, parsed_both, parsed_or_empty, any_are, AreFine, each_is, each_as, items_have}
 use Rattle.form_laws.proofs.Typed.{AreGroups, variables_are}
 use Rattle.form_laws.proofs.Terms.{term_has}
 use Rattle.form_laws.proofs.Conditions.{formulas_written}
@@ -68,27 +68,27 @@ changed_is c target (new.Undefined place) any is = tt
 
 new_value_is : (c : RawChange) (tree : Sexp) → HasLiteralLeaves tree → IfFine (new_value c tree) IsNew
 new_value_is c tree have =
-    fine_if IsNew (is_undefined c tree) (fine (new.Undefined (place_of tree))) (over new.Value (term tree)) tt
-    (fine_over HasLiterals IsNew new.Value (term tree) (λ value is. is) (term_has tree have))
+    parsed_if IsNew (is_undefined c tree) (parsed (new.Undefined (place_of tree))) (over new.Value (term tree)) tt
+    (parsed_over HasLiterals IsNew new.Value (term tree) (λ value is. is) (term_has tree have))
 
 by_head_is : (h : EffectHead) (place : Place) (first : Sexp) (rest : List Sexp) (each : List (Read RawEffect)) → Every HasLiteralLeaves rest
     → AreFine IsWrittenEffect each → IfFine (by_effect_head h place first rest each) IsWrittenEffect
-by_head_is head.And place first rest each have are = fine_over (Every IsWrittenEffect) IsWrittenEffect And (all each) and_is (fine_all IsWrittenEffect each are)
+by_head_is head.And place first rest each have are = parsed_over (Every IsWrittenEffect) IsWrittenEffect And (all each) and_is (parsed_all IsWrittenEffect each are)
 by_head_is head.Forall place first rest each have are =
-    fine_followed IsWrittenEffect (two place (λ vars e. Forall vars e) (map variables rest) each) (extra (drop 2 rest))
-    (fine_both AreGroups IsWrittenEffect IsWrittenEffect place (λ vars e. Forall vars e) (map variables rest) each forall_is
+    parsed_followed IsWrittenEffect (two place (λ vars e. Forall vars e) (map variables rest) each) (extra (drop 2 rest))
+    (parsed_both AreGroups IsWrittenEffect IsWrittenEffect place (λ vars e. Forall vars e) (map variables rest) each forall_is
     (each_is AreGroups variables rest variables_are) are)
 by_head_is head.When place first rest each have are =
-    fine_followed IsWrittenEffect (two place (λ f e. When f e) (map formula rest) each) (extra (drop 2 rest))
-    (fine_both IsWritten IsWrittenEffect IsWrittenEffect place (λ f e. When f e) (map formula rest) each when_is (formulas_written rest have) are)
+    parsed_followed IsWrittenEffect (two place (λ f e. When f e) (map formula rest) each) (extra (drop 2 rest))
+    (parsed_both IsWritten IsWrittenEffect IsWrittenEffect place (λ f e. When f e) (map formula rest) each when_is (formulas_written rest have) are)
 by_head_is head.Not place first rest each have are =
-    fine_followed IsWrittenEffect (over Delete (one place (map call rest))) (extra (drop 1 rest))
-    (fine_made IsWrittenEffect Delete (one place (map call rest)) delete_is)
+    parsed_followed IsWrittenEffect (over Delete (one place (map call rest))) (extra (drop 1 rest))
+    (parsed_made IsWrittenEffect Delete (one place (map call rest)) delete_is)
 by_head_is (head.Change c) place first rest each have are =
-    fine_followed IsWrittenEffect (two place (changed c) (map call rest) (map (new_value c) rest)) (extra (drop 2 rest))
-    (fine_both (λ it. ⊤) IsNew IsWrittenEffect place (changed c) (map call rest) (map (new_value c) rest) (changed_is c) (any_are (map call rest))
+    parsed_followed IsWrittenEffect (two place (changed c) (map call rest) (map (new_value c) rest)) (extra (drop 2 rest))
+    (parsed_both (λ it. ⊤) IsNew IsWrittenEffect place (changed c) (map call rest) (map (new_value c) rest) (changed_is c) (any_are (map call rest))
     (each_as HasLiteralLeaves IsNew (new_value c) rest (new_value_is c) have))
-by_head_is head.Other place first rest each have are = fine_made IsWrittenEffect Add (in_call place (first ∷ rest)) add_is
+by_head_is head.Other place first rest each have are = parsed_made IsWrittenEffect Add (in_call place (first ∷ rest)) add_is
 
 in_effect_is : (place : Place) (items : List Sexp) (each : List (Read RawEffect)) → Every HasLiteralLeaves items → AreFine IsWrittenEffect each
     → IfFine (in_effect place items each) IsWrittenEffect
@@ -108,4 +108,4 @@ mutual
   effects_are (more_of-Sexp tree row) have = (effect_is tree have.0, effects_are row have.1)
 
 pub whole_effect_is : (tree : Sexp) → HasLiteralLeaves tree → IfFine (whole_effect tree) IsWrittenEffect
-whole_effect_is tree have = fine_or_empty IsWrittenEffect (And []) (effect tree) tree (and_is [] tt) (effect_is tree have)
+whole_effect_is tree have = parsed_or_empty IsWrittenEffect (And []) (effect tree) tree (and_is [] tt) (effect_is tree have)

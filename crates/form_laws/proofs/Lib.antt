@@ -1,4 +1,4 @@
-pub mod Verdicts
+pub mod Parses
 pub mod Typed
 pub mod Terms
 pub mod Conditions

@@ -4,7 +4,7 @@ use Rattle.std.specs.Prelude.{⊤, Option, Some, None}
 use Rattle.up_text.specs.declared.place.Place.{Place}
 use Rattle.up_text.specs.Lists.{Every}
 use Rattle.pddl_lex.specs.declared.tree.Sexp.{Sexp}
-use Rattle.pddl_lex.specs.Verdicts.{faulty, all}
+use Rattle.pddl_lex.specs.Parses.{rejected, all}
 use Rattle.pddl_parse.specs.declared.section.DomainKey.{DomainKey}
 use Rattle.pddl_parse.specs.declared.section.DomainKey.TheVariants as domain
 use Rattle.pddl_parse.specs.declared.section.DomainSection.{DomainSection}
@@ -24,11 +24,11 @@ use Rattle.pddl_parse.specs.Constraints.{whole_constraint}
 use Rattle.pddl_parse.specs.Starts.{initial, metric}
 use Rattle.pddl_parse.specs.Sections.{keyword_of, refusal, requirements, alone, domain_key, stands_once, domain_body, domain_known, domain_named, in_domain_section, domain_section, domain_sections, problem_key, problem_body, problem_known, problem_named, in_problem_section, problem_section, problem_sections}
 use Rattle.token_laws.specs.Literals.{HasLiteralLeaves}
-use Rattle.read_laws.specs.Agreement.{IfFine}
-use Rattle.read_laws.specs.Literal.{IsWritten, IsWrittenConstraint}
-use Rattle.read_laws.specs.Initial.{IsWrittenInit}
-use Rattle.read_laws.specs.Sound.{AreNamed, AreNamedFunctions}
-use Rattle.form_laws.proofs.Verdicts.{fine_over, fine_two, fine_behind, fine_followed, fine_if, fine_one, each_as, fine_group}
+use Rattle.wellformed_phrases.specs.Agreement.{IfFine}
+use Rattle.wellformed_phrases.specs.Literal.{IsWritten, IsWrittenConstraint}
+use Rattle.wellformed_phrases.specs.Initial.{IsWrittenInit}
+use Rattle.wellformed_phrases.specs.Sound.{AreNamed, AreNamedFunctions}
+use Rattle.form_laws.proofs.Parses.{parsed_over, parsed_two, parsed_behind, parsed_followed, parsed_if, parsed_one, each_as, parsed_group}
 use Rattle.form_laws.proofs.Typed.{IsNamed, ident_is, AreGroups, typed_list_is}
 use Rattle.form_laws.proofs.Conditions.{condition_is}
 use Rattle.form_laws.proofs.Actions.{IsRead, action_is}
@@ -39,12 +39,12 @@ use Rattle.form_laws.proofs.Constraints.{whole_constraint_is}
 requirements_are : {A : Type 0} (P : A → Type 0) (whole : A) (items : List Sexp) → P whole → IfFine (requirements whole items) P
 requirements_are P whole [] is = is
 requirements_are P whole (tree ∷ rest) is =
-    fine_behind P (refusal (keyword_of tree) tree) (requirements whole rest) (requirements_are P whole rest is)
+    parsed_behind P (refusal (keyword_of tree) tree) (requirements whole rest) (requirements_are P whole rest is)
 
 alone_is : {A : Type 0} (P : A → Type 0) (place : Place) (f : Sexp → Read A) (rest : List Sexp) → ((tree : Sexp) → HasLiteralLeaves tree → IfFine (f tree) P)
     → Every HasLiteralLeaves rest → IfFine (alone place f rest) P
 alone_is P place f rest h have =
-    fine_followed P (one place (map f rest)) (extra (drop 1 rest)) (fine_one P place (map f rest) (each_as HasLiteralLeaves P f rest h have))
+    parsed_followed P (one place (map f rest)) (extra (drop 1 rest)) (parsed_one P place (map f rest) (each_as HasLiteralLeaves P f rest h have))
 
 -- ---- the domain's
 
@@ -60,23 +60,23 @@ InDomain (in_domain.Constraints raw) = IsWrittenConstraint raw
 domain_body_is : (key : DomainKey) (place : Place) (rest : List Sexp) → Every HasLiteralLeaves rest → IfFine (domain_body key place rest) InDomain
 domain_body_is domain.Requirements place rest have = requirements_are InDomain in_domain.Requirements rest tt
 domain_body_is domain.Types place rest have =
-    fine_over AreGroups InDomain in_domain.Types (typed_list item.Name place rest) (λ groups are. are) (typed_list_is item.Name place rest)
+    parsed_over AreGroups InDomain in_domain.Types (typed_list item.Name place rest) (λ groups are. are) (typed_list_is item.Name place rest)
 domain_body_is domain.Constants place rest have =
-    fine_over AreGroups InDomain in_domain.Constants (typed_list item.Name place rest) (λ groups are. are) (typed_list_is item.Name place rest)
+    parsed_over AreGroups InDomain in_domain.Constants (typed_list item.Name place rest) (λ groups are. are) (typed_list_is item.Name place rest)
 domain_body_is domain.Predicates place rest have =
-    fine_over AreNamed InDomain in_domain.Predicates (predicates rest) (λ symbols are. are) (predicates_are rest)
+    parsed_over AreNamed InDomain in_domain.Predicates (predicates rest) (λ symbols are. are) (predicates_are rest)
 domain_body_is domain.Functions place rest have =
-    fine_over AreNamedFunctions InDomain in_domain.Functions (functions place rest) (λ groups are. are) (functions_are place rest)
-domain_body_is domain.Action place rest have = fine_over IsRead InDomain in_domain.Action (action place rest) (λ raw is. is) (action_is place rest have)
+    parsed_over AreNamedFunctions InDomain in_domain.Functions (functions place rest) (λ groups are. are) (functions_are place rest)
+domain_body_is domain.Action place rest have = parsed_over IsRead InDomain in_domain.Action (action place rest) (λ raw is. is) (action_is place rest have)
 domain_body_is domain.Constraints place rest have =
-    fine_over IsWrittenConstraint InDomain in_domain.Constraints (alone place whole_constraint rest) (λ raw is. is)
+    parsed_over IsWrittenConstraint InDomain in_domain.Constraints (alone place whole_constraint rest) (λ raw is. is)
     (alone_is IsWrittenConstraint place whole_constraint rest whole_constraint_is have)
 
 domain_known_is : (found : Option DomainKey) (word : List ℕ) (before : List Sexp) (place : Place) (rest : List Sexp) → Every HasLiteralLeaves rest
     → IfFine (domain_known found word before place rest) InDomain
 domain_known_is None word before place rest have = tt
 domain_known_is (Some key) word before place rest have =
-    fine_if InDomain (stands_once key && has_section word before) (faulty (Duplicate place) []) (domain_body key place rest) tt
+    parsed_if InDomain (stands_once key && has_section word before) (rejected (Duplicate place) []) (domain_body key place rest) tt
     (domain_body_is key place rest have)
 
 domain_named_is : (found : Option (List ℕ)) (before : List Sexp) (place : Place) (head : Sexp) (rest : List Sexp) → Every HasLiteralLeaves rest
@@ -92,8 +92,8 @@ in_domain_section_is before place (head ∷ rest) have = domain_named_is (keywor
 pub domain_sections_are : (before trees : List Sexp) → Every HasLiteralLeaves trees → IfFine (domain_sections before trees) (Every InDomain)
 domain_sections_are before [] have = tt
 domain_sections_are before (tree ∷ rest) have =
-    fine_two InDomain (Every InDomain) (Every InDomain) (λ s ss. s ∷ ss) (domain_section before tree) (domain_sections (before ++ tree ∷ []) rest)
-    (λ s ss is are. (is, are)) (fine_group InDomain (in_domain_section before) (in_domain_section_is before) tree have.0)
+    parsed_two InDomain (Every InDomain) (Every InDomain) (λ s ss. s ∷ ss) (domain_section before tree) (domain_sections (before ++ tree ∷ []) rest)
+    (λ s ss is are. (is, are)) (parsed_group InDomain (in_domain_section before) (in_domain_section_is before) tree have.0)
     (domain_sections_are (before ++ tree ∷ []) rest have.1)
 
 -- ---- the problem's
@@ -109,25 +109,25 @@ InProblem (in_problem.Metric raw) = HasLiteralValue raw
 
 problem_body_is : (key : ProblemKey) (place : Place) (rest : List Sexp) → Every HasLiteralLeaves rest → IfFine (problem_body key place rest) InProblem
 problem_body_is problem.Domain place rest have =
-    fine_over IsNamed InProblem in_problem.Domain (alone place ident rest) (λ name is. is) (alone_is IsNamed place ident rest (λ tree has. ident_is tree) have)
+    parsed_over IsNamed InProblem in_problem.Domain (alone place ident rest) (λ name is. is) (alone_is IsNamed place ident rest (λ tree has. ident_is tree) have)
 problem_body_is problem.Requirements place rest have = requirements_are InProblem in_problem.Requirements rest tt
 problem_body_is problem.Objects place rest have =
-    fine_over AreGroups InProblem in_problem.Objects (typed_list item.Name place rest) (λ groups are. are) (typed_list_is item.Name place rest)
+    parsed_over AreGroups InProblem in_problem.Objects (typed_list item.Name place rest) (λ groups are. are) (typed_list_is item.Name place rest)
 problem_body_is problem.Init place rest have =
-    fine_over (Every IsWrittenInit) InProblem in_problem.Init (all (map initial rest)) (λ members are. are) (initials_are rest have)
+    parsed_over (Every IsWrittenInit) InProblem in_problem.Init (all (map initial rest)) (λ members are. are) (initials_are rest have)
 problem_body_is problem.Goal place rest have =
-    fine_over IsWritten InProblem in_problem.Goal (alone place condition rest) (λ f is. is) (alone_is IsWritten place condition rest condition_is have)
+    parsed_over IsWritten InProblem in_problem.Goal (alone place condition rest) (λ f is. is) (alone_is IsWritten place condition rest condition_is have)
 problem_body_is problem.Constraints place rest have =
-    fine_over IsWrittenConstraint InProblem in_problem.Constraints (alone place whole_constraint rest) (λ raw is. is)
+    parsed_over IsWrittenConstraint InProblem in_problem.Constraints (alone place whole_constraint rest) (λ raw is. is)
     (alone_is IsWrittenConstraint place whole_constraint rest whole_constraint_is have)
 problem_body_is problem.Metric place rest have =
-    fine_over HasLiteralValue InProblem in_problem.Metric (metric place rest) (λ raw has. has) (metric_is place rest have)
+    parsed_over HasLiteralValue InProblem in_problem.Metric (metric place rest) (λ raw has. has) (metric_is place rest have)
 
 problem_known_is : (found : Option ProblemKey) (word : List ℕ) (before : List Sexp) (place : Place) (rest : List Sexp) → Every HasLiteralLeaves rest
     → IfFine (problem_known found word before place rest) InProblem
 problem_known_is None word before place rest have = tt
 problem_known_is (Some key) word before place rest have =
-    fine_if InProblem (has_section word before) (faulty (Duplicate place) []) (problem_body key place rest) tt (problem_body_is key place rest have)
+    parsed_if InProblem (has_section word before) (rejected (Duplicate place) []) (problem_body key place rest) tt (problem_body_is key place rest have)
 
 problem_named_is : (found : Option (List ℕ)) (before : List Sexp) (place : Place) (head : Sexp) (rest : List Sexp) → Every HasLiteralLeaves rest
     → IfFine (problem_named found before place head rest) InProblem
@@ -142,6 +142,6 @@ in_problem_section_is before place (head ∷ rest) have = problem_named_is (keyw
 pub problem_sections_are : (before trees : List Sexp) → Every HasLiteralLeaves trees → IfFine (problem_sections before trees) (Every InProblem)
 problem_sections_are before [] have = tt
 problem_sections_are before (tree ∷ rest) have =
-    fine_two InProblem (Every InProblem) (Every InProblem) (λ s ss. s ∷ ss) (problem_section before tree) (problem_sections (before ++ tree ∷ []) rest)
-    (λ s ss is are. (is, are)) (fine_group InProblem (in_problem_section before) (in_problem_section_is before) tree have.0)
+    parsed_two InProblem (Every InProblem) (Every InProblem) (λ s ss. s ∷ ss) (problem_section before tree) (problem_sections (before ++ tree ∷ []) rest)
+    (λ s ss is are. (is, are)) (parsed_group InProblem (in_problem_section before) (in_problem_section_is before) tree have.0)
     (problem_sections_are (before ++ tree ∷ []) rest have.1)

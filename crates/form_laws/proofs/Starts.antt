@@ -6,7 +6,7 @@ use Rattle.up_text.specs.Lists.{Every}
 use Rattle.pddl_lex.specs.declared.tree.TokenKind.{TokenKind}
 use Rattle.pddl_lex.specs.declared.tree.TokenKind.TheVariants as kind
 use Rattle.pddl_lex.specs.declared.tree.Sexp.{Sexp, Leaf, Group'}
-use Rattle.pddl_lex.specs.Verdicts.{all, over}
+use Rattle.pddl_lex.specs.Parses.{all, over}
 use Rattle.pddl_parse.specs.declared.raw.RawInit.TheVariants.{Atom, Absent, Value}
 use Rattle.pddl_parse.specs.declared.raw.RawValue.TheVariants as «value»
 use Rattle.pddl_parse.specs.declared.raw.RawMetric.{RawMetric}
@@ -16,14 +16,14 @@ use Rattle.pddl_parse.specs.Shapes.{kind_ident, extra, one, two}
 use Rattle.pddl_parse.specs.Terms.{term}
 use Rattle.pddl_parse.specs.Starts.{in_ground, ground, kind_value, initial_value, init_head, by_init_head, in_init, initial, minimizes, metric_of, metric}
 use Rattle.token_laws.specs.Literals.{IsLiteralKind, HasLiteralLeaves}
-use Rattle.read_laws.specs.Agreement.{IfFine}
-use Rattle.read_laws.specs.Literal.{HasLiterals}
-use Rattle.read_laws.specs.Initial.{IsWrittenValue, IsWrittenInit}
-use Rattle.form_laws.proofs.Verdicts.{fine_made, fine_followed, fine_all, fine_both, any_are, each_as, fine_group}
+use Rattle.wellformed_phrases.specs.Agreement.{IfFine}
+use Rattle.wellformed_phrases.specs.Literal.{HasLiterals}
+use Rattle.wellformed_phrases.specs.Initial.{IsWrittenValue, IsWrittenInit}
+use Rattle.form_laws.proofs.Parses.{parsed_made, parsed_followed, parsed_all, parsed_both, any_are, each_as, parsed_group}
 use Rattle.form_laws.proofs.Conditions.{terms_have}
 
 object_is : (place : Place) (k : TokenKind) → IfFine (over value.Object (kind_ident place k)) IsWrittenValue
-object_is place k = fine_made IsWrittenValue value.Object (kind_ident place k) (λ it. tt)
+object_is place k = parsed_made IsWrittenValue value.Object (kind_ident place k) (λ it. tt)
 
 kind_value_is : (place : Place) (k : TokenKind) → IsLiteralKind k → IfFine (kind_value place k) IsWrittenValue
 kind_value_is place (kind.Number number) is = is
@@ -42,23 +42,23 @@ initial_value_is (Group' place n row) have = tt
 by_head_is : (h : InitHead) (place : Place) (first : Sexp) (rest : List Sexp) → Every HasLiteralLeaves rest
     → IfFine (by_init_head h place first rest) IsWrittenInit
 by_head_is head.Not place first rest have =
-    fine_followed IsWrittenInit (over Absent (one place (map ground rest))) (extra (drop 1 rest))
-    (fine_made IsWrittenInit Absent (one place (map ground rest)) (λ it. tt))
+    parsed_followed IsWrittenInit (over Absent (one place (map ground rest))) (extra (drop 1 rest))
+    (parsed_made IsWrittenInit Absent (one place (map ground rest)) (λ it. tt))
 by_head_is head.Same place first rest have =
-    fine_followed IsWrittenInit (two place (λ g v. Value place g v) (map ground rest) (map initial_value rest)) (extra (drop 2 rest))
-    (fine_both (λ g. ⊤) IsWrittenValue IsWrittenInit place (λ g v. Value place g v) (map ground rest) (map initial_value rest) (λ g v any is. is)
+    parsed_followed IsWrittenInit (two place (λ g v. Value place g v) (map ground rest) (map initial_value rest)) (extra (drop 2 rest))
+    (parsed_both (λ g. ⊤) IsWrittenValue IsWrittenInit place (λ g v. Value place g v) (map ground rest) (map initial_value rest) (λ g v any is. is)
     (any_are (map ground rest)) (each_as HasLiteralLeaves IsWrittenValue initial_value rest initial_value_is have))
-by_head_is head.Other place first rest have = fine_made IsWrittenInit Atom (in_ground place (first ∷ rest)) (λ it. tt)
+by_head_is head.Other place first rest have = parsed_made IsWrittenInit Atom (in_ground place (first ∷ rest)) (λ it. tt)
 
 in_init_is : (place : Place) (items : List Sexp) → Every HasLiteralLeaves items → IfFine (in_init place items) IsWrittenInit
 in_init_is place [] have = tt
 in_init_is place (first ∷ rest) have = by_head_is (init_head first) place first rest have.1
 
 initial_is : (tree : Sexp) → HasLiteralLeaves tree → IfFine (initial tree) IsWrittenInit
-initial_is tree have = fine_group IsWrittenInit in_init in_init_is tree have
+initial_is tree have = parsed_group IsWrittenInit in_init in_init_is tree have
 
 pub initials_are : (trees : List Sexp) → Every HasLiteralLeaves trees → IfFine (all (map initial trees)) (Every IsWrittenInit)
-initials_are trees have = fine_all IsWrittenInit (map initial trees) (each_as HasLiteralLeaves IsWrittenInit initial trees initial_is have)
+initials_are trees have = parsed_all IsWrittenInit (map initial trees) (each_as HasLiteralLeaves IsWrittenInit initial trees initial_is have)
 
 -- the numbers of a metric are literals
 abbrev pub HasLiteralValue : RawMetric → Type 0
@@ -66,6 +66,6 @@ HasLiteralValue it = HasLiterals it.value
 
 pub metric_is : (place : Place) (rest : List Sexp) → Every HasLiteralLeaves rest → IfFine (metric place rest) HasLiteralValue
 metric_is place rest have =
-    fine_followed HasLiteralValue (two place metric_of (map minimizes rest) (map term rest)) (extra (drop 2 rest))
-    (fine_both (λ b. ⊤) HasLiterals HasLiteralValue place metric_of (map minimizes rest) (map term rest) (λ b value any is. is) (any_are (map minimizes rest))
+    parsed_followed HasLiteralValue (two place metric_of (map minimizes rest) (map term rest)) (extra (drop 2 rest))
+    (parsed_both (λ b. ⊤) HasLiterals HasLiteralValue place metric_of (map minimizes rest) (map term rest) (λ b value any is. is) (any_are (map minimizes rest))
     (terms_have rest have))

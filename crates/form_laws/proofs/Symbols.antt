@@ -4,16 +4,16 @@ use Rattle.std.specs.Prelude.{⊤}
 use Rattle.up_text.specs.declared.place.Place.{Place}
 use Rattle.up_text.specs.Names.{IsName}
 use Rattle.pddl_lex.specs.declared.tree.Sexp.{Sexp}
-use Rattle.pddl_lex.specs.Verdicts.{fine, faulty, over_two}
+use Rattle.pddl_lex.specs.Parses.{parsed, rejected, over_two}
 use Rattle.pddl_parse.specs.declared.raw.RawSymbol.{RawSymbol}
 use Rattle.pddl_parse.specs.declared.typed.Item.TheVariants as item
 use Rattle.pddl_parse.specs.Brackets.{short}
 use Rattle.pddl_parse.specs.Shapes.{Read, lacking, ident}
 use Rattle.pddl_parse.specs.TypedLists.{is_minus, ends_in_minus, typed}
 use Rattle.pddl_parse.specs.Symbols.{symbol_of, in_symbol, symbol, predicates, gives, GoOn, functions_of, last_functions, minus_after, one_more, declared_step, declared, functions}
-use Rattle.read_laws.specs.Agreement.{IfFine}
-use Rattle.read_laws.specs.Sound.{AreNamed, AreNamedFunctions}
-use Rattle.form_laws.proofs.Verdicts.{fine_two, fine_any, fine_behind, fine_if, fine_all, fine_bracket, each_is, every_behind}
+use Rattle.wellformed_phrases.specs.Agreement.{IfFine}
+use Rattle.wellformed_phrases.specs.Sound.{AreNamed, AreNamedFunctions}
+use Rattle.form_laws.proofs.Parses.{parsed_two, parsed_any, parsed_behind, parsed_if, parsed_all, parsed_bracket, each_is, every_behind}
 use Rattle.form_laws.proofs.Typed.{IsNamed, ident_is}
 
 abbrev HasName : RawSymbol → Type 0
@@ -23,14 +23,14 @@ in_symbol_is : (place : Place) (items : List Sexp) → IfFine (in_symbol place i
 in_symbol_is place [] = tt
 in_symbol_is place (head ∷ rest) =
     let params = typed item.Variable place rest [] false in
-    fine_behind HasName (short (ends_in_minus rest) place (head ∷ rest)) (over_two symbol_of (ident head) params)
-    (fine_two IsNamed (λ groups. ⊤) HasName symbol_of (ident head) params (λ name groups is any. is) (ident_is head) (fine_any params))
+    parsed_behind HasName (short (ends_in_minus rest) place (head ∷ rest)) (over_two symbol_of (ident head) params)
+    (parsed_two IsNamed (λ groups. ⊤) HasName symbol_of (ident head) params (λ name groups is any. is) (ident_is head) (parsed_any params))
 
 symbol_is : (tree : Sexp) → IfFine (symbol tree) HasName
-symbol_is tree = fine_bracket HasName in_symbol in_symbol_is tree
+symbol_is tree = parsed_bracket HasName in_symbol in_symbol_is tree
 
 pub predicates_are : (items : List Sexp) → IfFine (predicates items) AreNamed
-predicates_are items = fine_all HasName _ (each_is HasName symbol items symbol_is)
+predicates_are items = parsed_all HasName _ (each_is HasName symbol items symbol_is)
 
 -- ---- functions
 
@@ -48,16 +48,16 @@ minus_are tree (f ∷ fs) go are on = on (f ∷ fs) true are
 
 more_are : (v : Read RawSymbol) (functions : List RawSymbol) (go : GoOn) → IfFine v HasName → AreNamed functions → GoesOn go
     → IfFine (one_more v functions go) AreNamedFunctions
-more_are (fine f) functions go is are on = on (functions ++ f ∷ []) false (every_behind HasName functions f are is)
-more_are (faulty f fs) functions go is are on = tt
+more_are (parsed f) functions go is are on = on (functions ++ f ∷ []) false (every_behind HasName functions f are is)
+more_are (rejected f fs) functions go is are on = tt
 
 step_are : (tree : Sexp) (functions : List RawSymbol) (due : Bool) (go : GoOn) → AreNamed functions → GoesOn go
     → IfFine (declared_step tree functions due go) AreNamedFunctions
 step_are tree functions true go are on =
-    fine_two (λ type. ⊤) AreNamedFunctions AreNamedFunctions (λ type groups. functions_of functions type ∷ groups) (gives tree) (go [] false)
-    (λ type groups any more. (are, more)) (fine_any (gives tree)) (on [] false tt)
+    parsed_two (λ type. ⊤) AreNamedFunctions AreNamedFunctions (λ type groups. functions_of functions type ∷ groups) (gives tree) (go [] false)
+    (λ type groups any more. (are, more)) (parsed_any (gives tree)) (on [] false tt)
 step_are tree functions false go are on =
-    fine_if AreNamedFunctions (is_minus tree) (minus_after tree functions go) (one_more (symbol tree) functions go) (minus_are tree functions go are on)
+    parsed_if AreNamedFunctions (is_minus tree) (minus_after tree functions go) (one_more (symbol tree) functions go) (minus_are tree functions go are on)
     (more_are (symbol tree) functions go (symbol_is tree) are on)
 
 declared_are : (place : Place) (items : List Sexp) (functions : List RawSymbol) (due : Bool) → AreNamed functions
@@ -67,4 +67,4 @@ declared_are place (tree ∷ rest) functions due are = step_are tree functions d
 
 pub functions_are : (place : Place) (items : List Sexp) → IfFine (functions place items) AreNamedFunctions
 functions_are place items =
-    fine_behind AreNamedFunctions (lacking (ends_in_minus items) place) (declared place items [] false) (declared_are place items [] false tt)
+    parsed_behind AreNamedFunctions (lacking (ends_in_minus items) place) (declared place items [] false) (declared_are place items [] false tt)

@@ -6,7 +6,7 @@ use Rattle.up_text.specs.Lists.{Every}
 use Rattle.pddl_lex.specs.declared.tree.TokenKind.{TokenKind}
 use Rattle.pddl_lex.specs.declared.tree.TokenKind.TheVariants as kind
 use Rattle.pddl_lex.specs.declared.tree.Sexp.{Sexp, Leaf, Group', Row_of-Sexp, end_of-Sexp, more_of-Sexp, items-the_row-Sexp}
-use Rattle.pddl_lex.specs.Verdicts.{all, over, followed}
+use Rattle.pddl_lex.specs.Parses.{all, over, followed}
 use Rattle.pddl_parse.specs.declared.raw.Ident.{Ident}
 use Rattle.pddl_parse.specs.declared.raw.Operator.{Operator}
 use Rattle.pddl_parse.specs.declared.raw.RawTerm.{RawTerm, Name, Variable, Call, Arithmetic, Row_of-RawTerm, end_of-RawTerm, more_of-RawTerm, items-the_row-RawTerm, items_hidden-the_row-RawTerm-0}
@@ -14,9 +14,9 @@ use Rattle.pddl_parse.specs.declared.raw.RawTerm.TheBlock.{hidden-the_row-RawTer
 use Rattle.pddl_parse.specs.Shapes.{Read, kind_ident, kind_variable, ident, extra, lacking}
 use Rattle.pddl_parse.specs.Terms.{kind_term, operator_of, least, most, by_operator, in_term, term, terms}
 use Rattle.token_laws.specs.Literals.{IsLiteralKind, HasLiteralLeaves, HaveLiteralLeaves}
-use Rattle.read_laws.specs.Agreement.{IfFine}
-use Rattle.read_laws.specs.Literal.{HasLiterals, HaveLiterals}
-use Rattle.form_laws.proofs.Verdicts.{every_take, every_rest, fine_over, fine_made, fine_two, fine_any, fine_behind, fine_followed, fine_all, AreFine}
+use Rattle.wellformed_phrases.specs.Agreement.{IfFine}
+use Rattle.wellformed_phrases.specs.Literal.{HasLiterals, HaveLiterals}
+use Rattle.form_laws.proofs.Parses.{every_take, every_rest, parsed_over, parsed_made, parsed_two, parsed_any, parsed_behind, parsed_followed, parsed_all, AreFine}
 
 mutual
   unfolding HasLiterals HaveLiterals
@@ -38,8 +38,8 @@ arithmetic_has place op ts are = list_has ts are
 
 kind_term_has : (place : Place) (k : TokenKind) → IsLiteralKind k → IfFine (kind_term place k) HasLiterals
 unfolding HasLiterals
-kind_term_has place (kind.Word word) is = fine_made HasLiterals Name (kind_ident place (kind.Word word)) (λ it. tt)
-kind_term_has place (kind.Variable word) is = fine_made HasLiterals Variable (kind_variable place (kind.Variable word)) (λ it. tt)
+kind_term_has place (kind.Word word) is = parsed_made HasLiterals Name (kind_ident place (kind.Word word)) (λ it. tt)
+kind_term_has place (kind.Variable word) is = parsed_made HasLiterals Variable (kind_variable place (kind.Variable word)) (λ it. tt)
 kind_term_has place (kind.Number number) is = is
 kind_term_has place kind.Open is = tt
 kind_term_has place kind.Close is = tt
@@ -49,15 +49,15 @@ kind_term_has place (kind.Sign sign) is = tt
 by_operator_has : (found : Option Operator) (place : Place) (head : Sexp) (rest : List Sexp) (each : List (Read RawTerm)) → AreFine HasLiterals each
     → IfFine (by_operator found place head rest each) HasLiterals
 by_operator_has None place head rest each are =
-    fine_two (λ f. ⊤) (Every HasLiterals) HasLiterals (λ f ts. Call place f ts) (ident head) (all each) (λ f ts named have. call_has place f ts have)
-    (fine_any (ident head)) (fine_all HasLiterals each are)
+    parsed_two (λ f. ⊤) (Every HasLiterals) HasLiterals (λ f ts. Call place f ts) (ident head) (all each) (λ f ts named have. call_has place f ts have)
+    (parsed_any (ident head)) (parsed_all HasLiterals each are)
 by_operator_has (Some op) place head rest each are =
     let n = most op (length rest) in
     let read = over (λ ts. Arithmetic place op ts) (all (take n each)) in
-    fine_behind HasLiterals (lacking (nat_lt (length rest) (least op)) place) (followed read (extra (drop n rest)))
-    (fine_followed HasLiterals read (extra (drop n rest))
-    (fine_over (Every HasLiterals) HasLiterals (λ ts. Arithmetic place op ts) (all (take n each)) (arithmetic_has place op)
-    (fine_all HasLiterals (take n each) (every_take (λ v. IfFine v HasLiterals) n each are))))
+    parsed_behind HasLiterals (lacking (nat_lt (length rest) (least op)) place) (followed read (extra (drop n rest)))
+    (parsed_followed HasLiterals read (extra (drop n rest))
+    (parsed_over (Every HasLiterals) HasLiterals (λ ts. Arithmetic place op ts) (all (take n each)) (arithmetic_has place op)
+    (parsed_all HasLiterals (take n each) (every_take (λ v. IfFine v HasLiterals) n each are))))
 
 in_term_has : (place : Place) (items : List Sexp) (each : List (Read RawTerm)) → AreFine HasLiterals each → IfFine (in_term place items each) HasLiterals
 in_term_has place [] each are = tt

@@ -5,7 +5,7 @@ use Rattle.up_text.specs.declared.place.Place.{Place}
 use Rattle.up_text.specs.Names.{IsName}
 use Rattle.up_text.specs.Lists.{Every}
 use Rattle.pddl_lex.specs.declared.tree.Sexp.{Sexp}
-use Rattle.pddl_lex.specs.Verdicts.{fine, faulty, over_two, behind, followed}
+use Rattle.pddl_lex.specs.Parses.{parsed, rejected, over_two, behind, followed}
 use Rattle.pddl_parse.specs.declared.raw.Ident.{Ident}
 use Rattle.pddl_parse.specs.declared.raw.RawAction.{RawAction}
 use Rattle.pddl_parse.specs.declared.raw.RawFormula.{RawFormula}
@@ -20,12 +20,12 @@ use Rattle.pddl_parse.specs.Brackets.{short}
 use Rattle.pddl_parse.specs.Sections.{domain_sections, problem_sections}
 use Rattle.pddl_parse.specs.Texts.{unlike, in_title, title, only, bare_domain, with_section, with_sections, in_domain_text, domain_text, bare_problem, put_section, put_sections, complete, whole, lacks_section, in_problem_text, problem_text}
 use Rattle.token_laws.specs.Literals.{HasLiteralLeaves}
-use Rattle.read_laws.specs.Agreement.{IfFine}
-use Rattle.read_laws.specs.Literal.{HaveNames, IsWritten, IsWrittenAction, IsWrittenConstraint, IsWrittenMetric}
-use Rattle.read_laws.specs.Initial.{IsWrittenInit}
-use Rattle.read_laws.specs.Written.{IsWrittenDomain, IsWrittenProblem}
+use Rattle.wellformed_phrases.specs.Agreement.{IfFine}
+use Rattle.wellformed_phrases.specs.Literal.{HaveNames, IsWritten, IsWrittenAction, IsWrittenConstraint, IsWrittenMetric}
+use Rattle.wellformed_phrases.specs.Initial.{IsWrittenInit}
+use Rattle.wellformed_phrases.specs.Written.{IsWrittenDomain, IsWrittenProblem}
 use Rattle.form_laws.specs.Laws.{DomainsAreWritten, ProblemsAreWritten}
-use Rattle.form_laws.proofs.Verdicts.{fine_two, fine_any, fine_behind, fine_followed, fine_bracket, fine_group, every_behind}
+use Rattle.form_laws.proofs.Parses.{parsed_two, parsed_any, parsed_behind, parsed_followed, parsed_bracket, parsed_group, every_behind}
 use Rattle.form_laws.proofs.Typed.{IsNamed, ident_is}
 use Rattle.form_laws.proofs.Constraints.{and_is}
 use Rattle.form_laws.proofs.Sections.{InDomain, domain_sections_are, InProblem, problem_sections_are}
@@ -34,15 +34,15 @@ in_title_is : (word : List ℕ) (place : Place) (items : List Sexp) → IfFine (
 in_title_is word place [] = tt
 in_title_is word place (head ∷ []) = tt
 in_title_is word place (head ∷ name ∷ others) =
-    fine_behind IsNamed (unlike word head) (followed (ident name) (extra others)) (fine_followed IsNamed (ident name) (extra others) (ident_is name))
+    parsed_behind IsNamed (unlike word head) (followed (ident name) (extra others)) (parsed_followed IsNamed (ident name) (extra others) (ident_is name))
 
 title_is : (word : List ℕ) (tree : Sexp) → IfFine (title word tree) IsNamed
-title_is word tree = fine_bracket IsNamed (in_title word) (in_title_is word) tree
+title_is word tree = parsed_bracket IsNamed (in_title word) (in_title_is word) tree
 
 only_is : {A : Type 0} (P : A → Type 0) (f : Sexp → Read A) (trees : List Sexp) → ((tree : Sexp) → HasLiteralLeaves tree → IfFine (f tree) P)
     → Every HasLiteralLeaves trees → IfFine (only f trees) P
 only_is P f [] h have = tt
-only_is P f (tree ∷ others) h have = fine_followed P (f tree) (extra others) (h tree have.0)
+only_is P f (tree ∷ others) h have = parsed_followed P (f tree) (extra others) (h tree have.0)
 
 -- ---- domains
 
@@ -82,14 +82,14 @@ in_domain_is : (place : Place) (items : List Sexp) → Every HasLiteralLeaves it
 in_domain_is place [] have = tt
 in_domain_is place (head ∷ []) have = tt
 in_domain_is place (head ∷ second ∷ rest) have =
-    fine_behind IsWrittenDomain (unlike (codes "define") head)
+    parsed_behind IsWrittenDomain (unlike (codes "define") head)
     (over_two (λ name ss. with_sections (bare_domain name) ss) (title (codes "domain") second) (domain_sections [] rest))
-    (fine_two (λ name. ⊤) (Every InDomain) IsWrittenDomain (λ name ss. with_sections (bare_domain name) ss) (title (codes "domain") second) (domain_sections [] rest)
-    (λ name ss any are. with_sections_is (bare_domain name) ss (bare_domain_is name) are) (fine_any (title (codes "domain") second))
+    (parsed_two (λ name. ⊤) (Every InDomain) IsWrittenDomain (λ name ss. with_sections (bare_domain name) ss) (title (codes "domain") second) (domain_sections [] rest)
+    (λ name ss any are. with_sections_is (bare_domain name) ss (bare_domain_is name) are) (parsed_any (title (codes "domain") second))
     (domain_sections_are [] rest have.1.1))
 
 domain_text_is : (tree : Sexp) → HasLiteralLeaves tree → IfFine (domain_text tree) IsWrittenDomain
-domain_text_is tree have = fine_group IsWrittenDomain in_domain_text in_domain_is tree have
+domain_text_is tree have = parsed_group IsWrittenDomain in_domain_text in_domain_is tree have
 
 pub domains_are_written : DomainsAreWritten
 domains_are_written trees have = only_is IsWrittenDomain domain_text trees domain_text_is have
@@ -143,22 +143,22 @@ complete_is place (Some name) (Some goal) parts named is are =
     record { name = are.name; domain = named; objects = are.objects; init = are.init; goal = is; constraints = are.constraints; metric = are.metric }
 
 whole_is : (place : Place) (v : Read ProblemParts) → IfFine v AreWrittenParts → IfFine (whole place v) IsWrittenProblem
-whole_is place (fine parts) are = complete_is place parts.domain parts.goal parts are.domain are.goal are
-whole_is place (faulty f fs) are = tt
+whole_is place (parsed parts) are = complete_is place parts.domain parts.goal parts are.domain are.goal are
+whole_is place (rejected f fs) are = tt
 
 in_problem_is : (place : Place) (items : List Sexp) → Every HasLiteralLeaves items → IfFine (in_problem_text place items) IsWrittenProblem
 in_problem_is place [] have = tt
 in_problem_is place (head ∷ []) have = tt
 in_problem_is place (head ∷ second ∷ rest) have =
     let read = over_two (λ name ss. put_sections (bare_problem name) ss) (title (codes "problem") second) (problem_sections [] rest) in
-    fine_behind IsWrittenProblem (short (lacks_section rest) place (head ∷ second ∷ rest)) (behind (unlike (codes "define") head) (whole place read))
-    (fine_behind IsWrittenProblem (unlike (codes "define") head) (whole place read) (whole_is place read
-    (fine_two IsNamed (Every InProblem) AreWrittenParts (λ name ss. put_sections (bare_problem name) ss) (title (codes "problem") second) (problem_sections [] rest)
+    parsed_behind IsWrittenProblem (short (lacks_section rest) place (head ∷ second ∷ rest)) (behind (unlike (codes "define") head) (whole place read))
+    (parsed_behind IsWrittenProblem (unlike (codes "define") head) (whole place read) (whole_is place read
+    (parsed_two IsNamed (Every InProblem) AreWrittenParts (λ name ss. put_sections (bare_problem name) ss) (title (codes "problem") second) (problem_sections [] rest)
     (λ name ss named are. put_sections_is (bare_problem name) ss (bare_problem_is name named) are) (title_is (codes "problem") second)
     (problem_sections_are [] rest have.1.1))))
 
 problem_text_is : (tree : Sexp) → HasLiteralLeaves tree → IfFine (problem_text tree) IsWrittenProblem
-problem_text_is tree have = fine_group IsWrittenProblem in_problem_text in_problem_is tree have
+problem_text_is tree have = parsed_group IsWrittenProblem in_problem_text in_problem_is tree have
 
 pub problems_are_written : ProblemsAreWritten
 problems_are_written trees have = only_is IsWrittenProblem problem_text trees problem_text_is have

@@ -15,11 +15,11 @@ use Rattle.pddl_parse.specs.declared.typed.Item.TheVariants as item
 use Rattle.pddl_parse.specs.Brackets.{short}
 use Rattle.pddl_parse.specs.Shapes.{Read, lacking, named, kind_ident, kind_variable, ident, variable}
 use Rattle.pddl_parse.specs.TypedLists.{is_minus, ends_in_minus, listed, Go, last_group, on_minus, on_name, typed_step, typed, typed_list, variable_list, variables}
-use Rattle.pddl_lex.specs.Verdicts.{fine, faulty}
-use Rattle.read_laws.specs.Agreement.{IfFine}
-use Rattle.read_laws.specs.Literal.{HaveNames}
-use Rattle.read_laws.specs.SoundTypes.{HaveNamedTypes}
-use Rattle.form_laws.proofs.Verdicts.{fine_two, fine_behind, fine_if, every_behind}
+use Rattle.pddl_lex.specs.Parses.{parsed, rejected}
+use Rattle.wellformed_phrases.specs.Agreement.{IfFine}
+use Rattle.wellformed_phrases.specs.Literal.{HaveNames}
+use Rattle.wellformed_phrases.specs.SoundTypes.{HaveNamedTypes}
+use Rattle.form_laws.proofs.Parses.{parsed_two, parsed_behind, parsed_if, every_behind}
 
 -- ---- names
 
@@ -86,16 +86,16 @@ minus_is tree [] go are on = tt
 minus_is tree (name ∷ names) go are on = on (name ∷ names) true are
 
 name_is : (v : Read Ident) (names : List Ident) (go : Go) → IfFine v IsNamed → Every IsNamed names → GoesOn go → IfFine (on_name v names go) AreGroups
-name_is (fine name) names go is are on = on (names ++ name ∷ []) false (every_behind IsNamed names name are is)
-name_is (faulty f fs) names go is are on = tt
+name_is (parsed name) names go is are on = on (names ++ name ∷ []) false (every_behind IsNamed names name are is)
+name_is (rejected f fs) names go is are on = tt
 
 step_is : (what : Item) (tree : Sexp) (names : List Ident) (due : Bool) (go : Go) → Every IsNamed names → GoesOn go
     → IfFine (typed_step what tree names due go) AreGroups
 step_is what tree names true go are on =
-    fine_two IsNamed AreGroups AreGroups (λ t groups. record { names = names; of = Some t } ∷ groups) (ident tree) (go [] false)
+    parsed_two IsNamed AreGroups AreGroups (λ t groups. record { names = names; of = Some t } ∷ groups) (ident tree) (go [] false)
     (λ t groups is more. ((are, more.0), (is, more.1))) (ident_is tree) (on [] false tt)
 step_is what tree names false go are on =
-    fine_if AreGroups (is_minus tree) (on_minus tree names go) (on_name (listed what tree) names go) (minus_is tree names go are on)
+    parsed_if AreGroups (is_minus tree) (on_minus tree names go) (on_name (listed what tree) names go) (minus_is tree names go are on)
     (name_is (listed what tree) names go (listed_is what tree) are on)
 
 typed_is : (what : Item) (place : Place) (items : List Sexp) (names : List Ident) (due : Bool) → Every IsNamed names
@@ -106,11 +106,11 @@ typed_is what place (tree ∷ rest) names due are =
 
 pub typed_list_is : (what : Item) (place : Place) (items : List Sexp) → IfFine (typed_list what place items) AreGroups
 typed_list_is what place items =
-    fine_behind AreGroups (lacking (ends_in_minus items) place) (typed what place items [] false) (typed_is what place items [] false tt)
+    parsed_behind AreGroups (lacking (ends_in_minus items) place) (typed what place items [] false) (typed_is what place items [] false tt)
 
 variable_list_is : (place : Place) (items : List Sexp) → IfFine (variable_list place items) AreGroups
 variable_list_is place items =
-    fine_behind AreGroups (short (ends_in_minus items) place items) (typed item.Variable place items [] false) (typed_is item.Variable place items [] false tt)
+    parsed_behind AreGroups (short (ends_in_minus items) place items) (typed item.Variable place items [] false) (typed_is item.Variable place items [] false tt)
 
 pub variables_are : (tree : Sexp) → IfFine (variables tree) AreGroups
 unfolding variables

@@ -4,8 +4,8 @@ use Rattle.up_text.specs.Lists.{Every}
 use Rattle.pddl_lex.specs.declared.tree.Sexp.{Sexp}
 use Rattle.pddl_parse.specs.Texts.{domain, problem}
 use Rattle.token_laws.specs.Literals.{HasLiteralLeaves}
-use Rattle.read_laws.specs.Agreement.{IfFine}
-use Rattle.read_laws.specs.Written.{IsWrittenDomain, IsWrittenProblem}
+use Rattle.wellformed_phrases.specs.Agreement.{IfFine}
+use Rattle.wellformed_phrases.specs.Written.{IsWrittenDomain, IsWrittenProblem}
 
 abbrev pub DomainsAreWritten : Type 0
 DomainsAreWritten = (trees : List Sexp) → Every HasLiteralLeaves trees → IfFine (domain trees) IsWrittenDomain

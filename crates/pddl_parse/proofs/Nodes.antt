@@ -4,7 +4,7 @@ use Rattle.up_text.specs.declared.place.Place.{Place}
 use Rattle.pddl_lex.specs.declared.tree.Token.{Token}
 use Rattle.pddl_lex.specs.declared.tree.Sexp.{Sexp, Leaf, Group, Row_of-Sexp, end_of-Sexp, more_of-Sexp, items-the_row-Sexp, items_hidden-the_row-Sexp-0}
 use Rattle.pddl_lex.specs.declared.tree.Sexp.TheBlock.{hidden-the_row-Sexp-0}
-use Rattle.pddl_lex.specs.Verdicts.{faulty}
+use Rattle.pddl_lex.specs.Parses.{rejected}
 use Rattle.pddl_parse.specs.declared.head.Head.TheVariants as head
 use Rattle.pddl_parse.specs.declared.head.EffectHead.TheVariants as effect
 use Rattle.pddl_parse.specs.declared.head.ConstraintHead.TheVariants as constraint
@@ -34,7 +34,7 @@ pub ident-Leaf : (token : Token) → ident (Leaf token) ≡ kind_ident token.pla
 unfolding ident
 ident-Leaf token = refl
 
-pub ident-Group : (place : Place) (items : List Sexp) → ident (Group place items) ≡ faulty (misfit (Group place items)) []
+pub ident-Group : (place : Place) (items : List Sexp) → ident (Group place items) ≡ rejected (misfit (Group place items)) []
 unfolding ident
 ident-Group place items = refl
 
@@ -42,7 +42,7 @@ pub variable-Leaf : (token : Token) → variable (Leaf token) ≡ kind_variable 
 unfolding variable
 variable-Leaf token = refl
 
-pub variable-Group : (place : Place) (items : List Sexp) → variable (Group place items) ≡ faulty (misfit (Group place items)) []
+pub variable-Group : (place : Place) (items : List Sexp) → variable (Group place items) ≡ rejected (misfit (Group place items)) []
 unfolding variable
 variable-Group place items = refl
 
@@ -54,7 +54,7 @@ pub is_minus-Group : (place : Place) (items : List Sexp) → is_minus (Group pla
 unfolding is_minus
 is_minus-Group place items = refl
 
-pub variables-Leaf : (token : Token) → variables (Leaf token) ≡ faulty (misfit_token token.place token) []
+pub variables-Leaf : (token : Token) → variables (Leaf token) ≡ rejected (misfit_token token.place token) []
 unfolding variables
 variables-Leaf token = refl
 
@@ -93,7 +93,7 @@ pub head_of-Group : (place : Place) (items : List Sexp) → head_of (Group place
 unfolding head_of
 head_of-Group place items = refl
 
-pub formula-Leaf : (token : Token) → formula (Leaf token) ≡ faulty (misfit_token token.place token) []
+pub formula-Leaf : (token : Token) → formula (Leaf token) ≡ rejected (misfit_token token.place token) []
 unfolding formula
 formula-Leaf token = refl
 
@@ -108,7 +108,7 @@ formula-Group place items =
     ap (in_formula place (items-the_row-Sexp _ (hidden-the_row-Sexp-0 items))) (formulas-items (hidden-the_row-Sexp-0 items))
     ∙ ap (λ xs. in_formula place xs (map formula xs)) (items_hidden-the_row-Sexp-0 items)
 
-pub bracket-Leaf : {A : Type 0} (f : Place → List Sexp → Read A) (token : Token) → bracket f (Leaf token) ≡ faulty (misfit_token token.place token) []
+pub bracket-Leaf : {A : Type 0} (f : Place → List Sexp → Read A) (token : Token) → bracket f (Leaf token) ≡ rejected (misfit_token token.place token) []
 unfolding bracket
 bracket-Leaf f token = refl
 
@@ -156,7 +156,7 @@ pub effect_head-Group : (place : Place) (items : List Sexp) → effect_head (Gro
 unfolding effect_head
 effect_head-Group place items = refl
 
-pub effect-Leaf : (token : Token) → effect (Leaf token) ≡ faulty (misfit_token token.place token) []
+pub effect-Leaf : (token : Token) → effect (Leaf token) ≡ rejected (misfit_token token.place token) []
 unfolding effect
 effect-Leaf token = refl
 
@@ -187,7 +187,7 @@ pub unknown-Group : (place at : Place) (items : List Sexp) → unknown place (Gr
 unfolding unknown
 unknown-Group place at items = refl
 
-pub constraint-Leaf : (token : Token) → constraint (Leaf token) ≡ faulty (misfit_token token.place token) []
+pub constraint-Leaf : (token : Token) → constraint (Leaf token) ≡ rejected (misfit_token token.place token) []
 unfolding constraint
 constraint-Leaf token = refl
 
@@ -214,7 +214,7 @@ pub initial_value-Leaf : (token : Token) → initial_value (Leaf token) ≡ kind
 unfolding initial_value
 initial_value-Leaf token = refl
 
-pub initial_value-Group : (place : Place) (items : List Sexp) → initial_value (Group place items) ≡ faulty (misfit (Group place items)) []
+pub initial_value-Group : (place : Place) (items : List Sexp) → initial_value (Group place items) ≡ rejected (misfit (Group place items)) []
 unfolding initial_value
 initial_value-Group place items = refl
 

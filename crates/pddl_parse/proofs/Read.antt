@@ -9,7 +9,7 @@ use Rattle.pddl_lex.specs.declared.tree.Sexp.{Sexp, Leaf, Group}
 use Rattle.pddl_lex.specs.declared.tree.TokenKind.TheVariants as kind
 use Rattle.pddl_lex.specs.declared.tree.Sign.{Sign}
 use Rattle.pddl_lex.specs.declared.tree.Sign.TheVariants as sign
-use Rattle.pddl_lex.specs.Verdicts.{fine, all, over, over_two, behind, followed}
+use Rattle.pddl_lex.specs.Parses.{parsed, all, over, over_two, behind, followed}
 use Rattle.pddl_parse.specs.declared.raw.Ident.{Ident}
 use Rattle.pddl_parse.specs.declared.raw.Operator.{Operator}
 use Rattle.pddl_parse.specs.declared.raw.Relation.{Relation}
@@ -30,9 +30,9 @@ use Rattle.pddl_parse.specs.Brackets.{short}
 use Rattle.pddl_parse.specs.TypedLists as lists
 use Rattle.pddl_parse.specs.Forms.{leaf, IsIdent, ident, IsVariable, variable, IsOperator, sum, product, negative, difference, quotient, IsRelation, less, less_equal, same, greater_equal, greater, IsTerm, a_name, a_variable, a_number, a_call, an_expression, AreTerms, no_terms, more_terms, IsFormula, of_and, of_or, of_not, of_imply, of_exists, of_forall, an_atom, a_comparison, AreFormulas, no_formulas, more_formulas, AreVariables, no_variables, more_variables, AreTyped, no_groups, untyped, typed, ident_at}
 use Rattle.pddl_parse.proofs.Nodes.{term-Leaf, term-Group, formula-Group, head_of-Leaf, operator_of-Leaf, variables-Group}
-use Rattle.pddl_parse.proofs.Reading.{arithmetic_fine}
+use Rattle.pddl_parse.proofs.Reading.{arithmetic_parsed}
 
-pub ident_read : (tree : Sexp) (it : Ident) → IsIdent tree it → shape.ident tree ≡ fine it
+pub ident_read : (tree : Sexp) (it : Ident) → IsIdent tree it → shape.ident tree ≡ parsed it
 unfolding shape.ident
 ident_read _ _ (ident word name place is) = rw is refl
 
@@ -93,20 +93,20 @@ drop_whole [] = refl
 drop_whole (x ∷ xs) = drop_whole xs
 
 arithmetic_read : (sign : Sign) (op : Operator) (place : Place) (trees : List Sexp) (ts : List RawTerm)
-    → Fits sign op (length trees) → all (map term trees) ≡ fine ts → arithmetic op place trees (map term trees) ≡ fine (Arithmetic place op ts)
+    → Fits sign op (length trees) → all (map term trees) ≡ parsed ts → arithmetic op place trees (map term trees) ≡ parsed (Arithmetic place op ts)
 arithmetic_read sign op place trees ts fit read =
-    arithmetic_fine op place trees ts (rw fit.enough refl) (rw (fit.count, take_whole trees) read) (rw (fit.count, drop_whole trees) refl)
+    arithmetic_parsed op place trees ts (rw fit.enough refl) (rw (fit.count, take_whole trees) read) (rw (fit.count, drop_whole trees) refl)
 
-pub name_read : (tree : Sexp) (it : Ident) → IsIdent tree it → term tree ≡ fine (Name it)
+pub name_read : (tree : Sexp) (it : Ident) → IsIdent tree it → term tree ≡ parsed (Name it)
 unfolding term
 name_read _ _ (ident word name place is) = rw is refl
 
-pub variable_read : (tree : Sexp) (it : Ident) → IsVariable tree it → term tree ≡ fine (Variable it)
+pub variable_read : (tree : Sexp) (it : Ident) → IsVariable tree it → term tree ≡ parsed (Variable it)
 unfolding term
 variable_read _ _ (variable word name place is) = rw is refl
 
 mutual
-  pub term_read : (tree : Sexp) (t : RawTerm) → IsTerm tree t → term tree ≡ fine t
+  pub term_read : (tree : Sexp) (t : RawTerm) → IsTerm tree t → term tree ≡ parsed t
   term_read _ _ (a_name tree name is) = name_read tree name is
   term_read _ _ (a_variable tree name is) = variable_read tree name is
   term_read _ _ (a_number value place) = term-Leaf _
@@ -116,7 +116,7 @@ mutual
       rw (term-Group place (leaf (kind.Sign sign) at ∷ trees), operator_of-Leaf, (fits sign op (length trees) is).known)
       (arithmetic_read sign op place trees ts (fits sign op (length trees) is) (terms_read trees ts args))
 
-  pub terms_read : (trees : List Sexp) (ts : List RawTerm) → AreTerms trees ts → all (map term trees) ≡ fine ts
+  pub terms_read : (trees : List Sexp) (ts : List RawTerm) → AreTerms trees ts → all (map term trees) ≡ parsed ts
   terms_read _ _ no_terms = refl
   terms_read _ _ (more_terms tree t trees ts is others) = rw (term_read tree t is, terms_read trees ts others) refl
 
@@ -136,11 +136,11 @@ unfolding is_minus
 minus_on place at tree rest [] some = absurd (some refl)
 minus_on place at tree rest (name ∷ names) some = refl
 
-pub last_on : (place : Place) (names : List Ident) → names ≢ [] → last_group place names false ≡ fine (record { names = names; of = None } ∷ [])
+pub last_on : (place : Place) (names : List Ident) → names ≢ [] → last_group place names false ≡ parsed (record { names = names; of = None } ∷ [])
 last_on place [] some = absurd (some refl)
 last_on place (name ∷ names) some = refl
 
-groups_read : (place : Place) (trees : List Sexp) (groups : List RawGroup) → AreTyped trees groups → lists.typed item.Variable place trees [] false ≡ fine groups
+groups_read : (place : Place) (trees : List Sexp) (groups : List RawGroup) → AreTyped trees groups → lists.typed item.Variable place trees [] false ≡ parsed groups
 groups_read place _ _ no_groups = refl
 groups_read place _ _ (untyped trees names some are) =
     rw (← append-nil trees, variables_on place trees names are [] []) (last_on place names some)
@@ -171,11 +171,11 @@ ends_groups _ _ (untyped trees names some are) = ends_variables trees names are
 ends_groups _ _ (typed trees names at tree of rest groups some are is others) =
     rw (ends_through trees false (leaf (kind.Sign sign.Minus) at) (tree ∷ rest), ident_no_minus tree of is) (ends_groups rest groups others)
 
-pub typed_read : (place : Place) (trees : List Sexp) (groups : List RawGroup) → AreTyped trees groups → variable_list place trees ≡ fine groups
+pub typed_read : (place : Place) (trees : List Sexp) (groups : List RawGroup) → AreTyped trees groups → variable_list place trees ≡ parsed groups
 typed_read place trees groups is = rw (ends_groups trees groups is, groups_read place trees groups is) refl
 
 mutual
-  pub formula_read : (tree : Sexp) (f : RawFormula) → IsFormula tree f → formula tree ≡ fine f
+  pub formula_read : (tree : Sexp) (f : RawFormula) → IsFormula tree f → formula tree ≡ parsed f
   formula_read _ _ (of_and place at trees fs is) =
       rw (formula-Group place (leaf (kind.Word (codes "and")) at ∷ trees), head_of-Leaf, formulas_read trees fs is) refl
   formula_read _ _ (of_or place at trees fs is) =
@@ -193,6 +193,6 @@ mutual
   formula_read _ _ (a_comparison place at sign r one two a b is is_one is_two) =
       rw (formula-Group place (leaf (kind.Sign sign) at ∷ one ∷ two ∷ []), head_of-Leaf, relation_head sign r is, term_read one a is_one, term_read two b is_two) refl
 
-  pub formulas_read : (trees : List Sexp) (fs : List RawFormula) → AreFormulas trees fs → all (map formula trees) ≡ fine fs
+  pub formulas_read : (trees : List Sexp) (fs : List RawFormula) → AreFormulas trees fs → all (map formula trees) ≡ parsed fs
   formulas_read _ _ no_formulas = refl
   formulas_read _ _ (more_formulas tree f trees fs is others) = rw (formula_read tree f is, formulas_read trees fs others) refl

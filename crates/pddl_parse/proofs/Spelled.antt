@@ -14,7 +14,7 @@ use Rattle.pddl_lex.specs.declared.tree.TokenKind.TheVariants as kind
 use Rattle.pddl_lex.specs.declared.tree.Sign.{Sign}
 use Rattle.pddl_lex.specs.declared.tree.Sign.TheVariants as sign
 use Rattle.pddl_lex.specs.declared.tree.Sexp.{Sexp, Leaf, Group, Group', Row_of-Sexp, end_of-Sexp, more_of-Sexp, items-the_row-Sexp}
-use Rattle.pddl_lex.specs.Verdicts.{Verdict, fine, faulty, all, over, over_two, behind, followed}
+use Rattle.pddl_lex.specs.Parses.{Parse, parsed, rejected, all, over, over_two, behind, followed}
 use Rattle.pddl_parse.specs.declared.raw.Ident.{Ident}
 use Rattle.pddl_parse.specs.declared.raw.Operator.{Operator}
 use Rattle.pddl_parse.specs.declared.raw.Operator.TheVariants as operator
@@ -30,27 +30,27 @@ use Rattle.pddl_parse.proofs.Nodes.{terms-items}
 use Rattle.pddl_parse.proofs.Rebuilt.{rebuilt}
 
 -- what is read, if anything, is so
-abbrev pub Sound : {F A : Type 0} → Verdict F A → (A → Type 0) → Type 0
-Sound (fine a) P = P a
-Sound (faulty f fs) P = ⊤
+abbrev pub Sound : {F A : Type 0} → Parse F A → (A → Type 0) → Type 0
+Sound (parsed a) P = P a
+Sound (rejected f fs) P = ⊤
 
-pub sound_over : {F A B : Type 0} (P : A → Type 0) (Q : B → Type 0) (g : A → B) (v : Verdict F A)
+pub sound_over : {F A B : Type 0} (P : A → Type 0) (Q : B → Type 0) (g : A → B) (v : Parse F A)
     → ((a : A) → P a → Q (g a)) → Sound v P → Sound (over g v) Q
-sound_over P Q g (fine a) h p = h a p
-sound_over P Q g (faulty f fs) h p = tt
+sound_over P Q g (parsed a) h p = h a p
+sound_over P Q g (rejected f fs) h p = tt
 
-pub sound_two : {F A B C : Type 0} (P : A → Type 0) (Q : B → Type 0) (R : C → Type 0) (g : A → B → C) (v : Verdict F A) (w : Verdict F B)
+pub sound_two : {F A B C : Type 0} (P : A → Type 0) (Q : B → Type 0) (R : C → Type 0) (g : A → B → C) (v : Parse F A) (w : Parse F B)
     → ((a : A) (b : B) → P a → Q b → R (g a b)) → Sound v P → Sound w Q → Sound (over_two g v w) R
-sound_two P Q R g (fine a) (fine b) h p q = h a b p q
-sound_two P Q R g (fine a) (faulty f fs) h p q = tt
-sound_two P Q R g (faulty f fs) w h p q = tt
+sound_two P Q R g (parsed a) (parsed b) h p q = h a b p q
+sound_two P Q R g (parsed a) (rejected f fs) h p q = tt
+sound_two P Q R g (rejected f fs) w h p q = tt
 
-pub sound_followed : {F A : Type 0} (P : A → Type 0) (v : Verdict F A) (fs : List F) → (fs ≡ [] → Sound v P) → Sound (followed v fs) P
-sound_followed P (fine a) [] h = h refl
-sound_followed P (fine a) (f ∷ fs) h = tt
-sound_followed P (faulty f gs) fs h = tt
+pub sound_followed : {F A : Type 0} (P : A → Type 0) (v : Parse F A) (fs : List F) → (fs ≡ [] → Sound v P) → Sound (followed v fs) P
+sound_followed P (parsed a) [] h = h refl
+sound_followed P (parsed a) (f ∷ fs) h = tt
+sound_followed P (rejected f gs) fs h = tt
 
-pub sound_behind : {F A : Type 0} (P : A → Type 0) (fs : List F) (v : Verdict F A) → (fs ≡ [] → Sound v P) → Sound (behind fs v) P
+pub sound_behind : {F A : Type 0} (P : A → Type 0) (fs : List F) (v : Parse F A) → (fs ≡ [] → Sound v P) → Sound (behind fs v) P
 sound_behind P [] v h = h refl
 sound_behind P (f ∷ fs) v h = tt
 
@@ -217,7 +217,7 @@ mutual
   row_sound (more_of-Sexp tree row) = (term_sound tree, row_sound row)
 
 -- what a tree is read as, it spells
-pub term_spelled : (tree : Sexp) (t : RawTerm) → term tree ≡ fine t → IsTerm tree t
+pub term_spelled : (tree : Sexp) (t : RawTerm) → term tree ≡ parsed t → IsTerm tree t
 term_spelled tree t e = subst (λ v. Sound v (IsTerm tree)) e (term_sound tree)
 
 pub all_sound : (trees : List Sexp) → Every IsRead trees

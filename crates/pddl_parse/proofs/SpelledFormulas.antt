@@ -11,7 +11,7 @@ use Rattle.pddl_lex.specs.declared.tree.TokenKind.TheVariants as kind
 use Rattle.pddl_lex.specs.declared.tree.Sign.{Sign}
 use Rattle.pddl_lex.specs.declared.tree.Sign.TheVariants as sign
 use Rattle.pddl_lex.specs.declared.tree.Sexp.{Sexp, Leaf, Group, Group', Row_of-Sexp, end_of-Sexp, more_of-Sexp, items-the_row-Sexp}
-use Rattle.pddl_lex.specs.Verdicts.{Verdict, fine, faulty, all, over, over_two, followed}
+use Rattle.pddl_lex.specs.Parses.{Parse, parsed, rejected, all, over, over_two, followed}
 use Rattle.pddl_parse.specs.declared.raw.Ident.{Ident}
 use Rattle.pddl_parse.specs.declared.raw.Relation.{Relation}
 use Rattle.pddl_parse.specs.declared.raw.Relation.TheVariants as relation

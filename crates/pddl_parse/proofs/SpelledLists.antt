@@ -8,7 +8,7 @@ use Rattle.pddl_lex.specs.declared.tree.TokenKind.TheVariants as kind
 use Rattle.pddl_lex.specs.declared.tree.Sign.{Sign}
 use Rattle.pddl_lex.specs.declared.tree.Sign.TheVariants as sign
 use Rattle.pddl_lex.specs.declared.tree.Sexp.{Sexp, Leaf, Group, Group', items-the_row-Sexp}
-use Rattle.pddl_lex.specs.Verdicts.{Verdict, fine, faulty, over_two, behind}
+use Rattle.pddl_lex.specs.Parses.{Parse, parsed, rejected, over_two, behind}
 use Rattle.pddl_parse.specs.declared.raw.Ident.{Ident}
 use Rattle.pddl_parse.specs.declared.raw.RawGroup.{RawGroup}
 use Rattle.pddl_parse.specs.Shapes as shape
@@ -76,8 +76,8 @@ on_minus_sound P tree (name ∷ names) go h = h (λ e. cc)
 
 on_name_sound : (P : List RawGroup → Type 0) (tree : Sexp) (v : Read Ident) (names : List Ident) (go : Go) → Sound v (IsVariable tree)
     → ((it : Ident) → IsVariable tree it → Sound (go (names ++ it ∷ []) false) P) → Sound (on_name v names go) P
-on_name_sound P tree (fine it) names go is h = h it is
-on_name_sound P tree (faulty f fs) names go is h = sound_behind P (f ∷ fs) (go names false) (λ e. cc)
+on_name_sound P tree (parsed it) names go is h = h it is
+on_name_sound P tree (rejected f fs) names go is h = sound_behind P (f ∷ fs) (go names false) (λ e. cc)
 
 mutual
   names_on : (place : Place) (trees front : List Sexp) (names : List Ident) → AreVariables front names
@@ -103,8 +103,8 @@ pub list_sound : (place : Place) (trees : List Sexp) → Sound (variable_list pl
 list_sound place trees = sound_behind (AreTyped trees) (short (ends_in_minus trees) place trees) (lists.typed item.Variable place trees [] false) (λ e. names_on place trees [] [] no_variables)
 
 pub sound_map : (P Q : List RawGroup → Type 0) (v : Read (List RawGroup)) → ((g : List RawGroup) → P g → Q g) → Sound v P → Sound v Q
-sound_map P Q (fine g) h p = h g p
-sound_map P Q (faulty f fs) h p = tt
+sound_map P Q (parsed g) h p = h g p
+sound_map P Q (rejected f fs) h p = tt
 
 pub vars_sound : (tree : Sexp) → Sound (variables tree) (AreVars tree)
 unfolding variables

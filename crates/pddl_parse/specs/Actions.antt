@@ -6,7 +6,7 @@ use Rattle.pddl_lex.specs.Trees.{place_of}
 use Rattle.pddl_lex.specs.declared.tree.TokenKind.{TokenKind}
 use Rattle.pddl_lex.specs.declared.tree.TokenKind.TheVariants as kind
 use Rattle.pddl_lex.specs.declared.tree.Sexp.{Sexp, Leaf, Group'}
-use Rattle.pddl_lex.specs.Verdicts.{Verdict, fine, faulty, over, over_two, behind}
+use Rattle.pddl_lex.specs.Parses.{Parse, parsed, rejected, over, over_two, behind}
 use Rattle.pddl_parse.specs.declared.raw.Ident.{Ident}
 use Rattle.pddl_parse.specs.declared.raw.RawAction.{RawAction}
 use Rattle.pddl_parse.specs.declared.raw.RawFormula.{RawFormula}
@@ -60,21 +60,21 @@ with_key keys key.Precondition = record { parameters = keys.parameters; precondi
 with_key keys key.Effect = record { parameters = keys.parameters; precondition = keys.precondition; effect = true }
 
 abbrev pub by_head : ActionHead → ActionKeys → Sexp → Read ActionKey
-by_head (head.Key k) keys tree = if has_key keys k then faulty (Duplicate (place_of tree)) [] else fine k
-by_head head.Unknown keys tree = faulty (LeftOut (place_of tree)) []
-by_head head.NoKey keys tree = faulty (misfit tree) []
+by_head (head.Key k) keys tree = if has_key keys k then rejected (Duplicate (place_of tree)) [] else parsed k
+by_head head.Unknown keys tree = rejected (LeftOut (place_of tree)) []
+by_head head.NoKey keys tree = rejected (misfit tree) []
 
 -- a key that hasn't stood before
 abbrev pub fresh_key : ActionKeys → Sexp → Read ActionKey
 fresh_key keys tree = by_head (action_head tree) keys tree
 
 abbrev pub is_fresh : Read ActionKey → Bool
-is_fresh (fine k) = true
-is_fresh (faulty f fs) = false
+is_fresh (parsed k) = true
+is_fresh (rejected f fs) = false
 
 abbrev pub taken : ActionKeys → Read ActionKey → ActionKeys
-taken keys (fine k) = with_key keys k
-taken keys (faulty f fs) = keys
+taken keys (parsed k) = with_key keys k
+taken keys (rejected f fs) = keys
 
 -- keys and values alternate, and a fresh key has no value
 abbrev pub lacks_value : ActionKeys → List Sexp → Bool
@@ -88,16 +88,16 @@ part_of key.Precondition tree = over chosen.Precondition (condition tree)
 part_of key.Effect tree = over chosen.Effect (whole_effect tree)
 
 abbrev pub part : Read ActionKey → Sexp → Read ActionPart
-part (fine k) value = part_of k value
-part (faulty f fs) value = faulty f fs
+part (parsed k) value = part_of k value
+part (rejected f fs) value = rejected f fs
 
 abbrev pub alone : Read ActionKey → Place → Read (List ActionPart)
-alone (fine k) place = faulty (Expected place) []
-alone (faulty f fs) place = faulty f fs
+alone (parsed k) place = rejected (Expected place) []
+alone (rejected f fs) place = rejected f fs
 
 -- keys with their values, behind these keys
 abbrev pub parts : Place → ActionKeys → List Sexp → Read (List ActionPart)
-parts place keys [] = fine []
+parts place keys [] = parsed []
 parts place keys (key ∷ []) = alone (fresh_key keys key) place
 parts place keys (key ∷ value ∷ rest) =
     over_two (λ p ps. p ∷ ps) (part (fresh_key keys key) value) (parts place (taken keys (fresh_key keys key)) rest)
@@ -120,7 +120,7 @@ as_action it = record { name = it.name; params = it.params; pre = it.pre; effect
 
 -- what stands in an action's bracket behind `:action`
 abbrev pub action : Place → List Sexp → Read RawAction
-action place [] = faulty (Expected place) []
+action place [] = rejected (Expected place) []
 action place (name ∷ rest) =
     behind (lacking (lacks_value no_keys rest) place)
     (over as_action (over_two (λ it ps. filled (bare it) ps) (ident name) (parts place no_keys rest)))

@@ -5,13 +5,13 @@ use Rattle.up_text.specs.declared.place.Place.{Place}
 use Rattle.pddl_lex.specs.declared.tree.TokenKind.{TokenKind}
 use Rattle.pddl_lex.specs.declared.tree.TokenKind.TheVariants as kind
 use Rattle.pddl_lex.specs.declared.tree.Sexp.{Sexp, Leaf, Group', items-the_row-Sexp}
-use Rattle.pddl_lex.specs.Verdicts.{Verdict, fine, faulty}
+use Rattle.pddl_lex.specs.Parses.{Parse, parsed, rejected}
 use Rattle.pddl_parse.specs.declared.shape.ShapeError.{ShapeError}
 use Rattle.pddl_parse.specs.Shapes.{Read, misfit_token, misfit_group}
 
 -- a bracket whose trees are read by f
 unfoldable pub bracket : {A : Type 0} → (Place → List Sexp → Read A) → Sexp → Read A
-bracket f (Leaf token) = faulty (misfit_token token.place token) []
+bracket f (Leaf token) = rejected (misfit_token token.place token) []
 bracket f (Group' place n row) = f place (items-the_row-Sexp _ row)
 
 -- a bracket at this place that lacks something
@@ -30,7 +30,7 @@ is_empty (Group' place n row) = is_none (items-the_row-Sexp _ row)
 
 -- `()` is nothing, and another tree is what it is read as
 abbrev pub or_empty : {A : Type 0} → A → Read A → Sexp → Read A
-or_empty nothing v tree = if is_empty tree then fine nothing else v
+or_empty nothing v tree = if is_empty tree then parsed nothing else v
 
 abbrev pub is_keyword_kind : List ℕ → TokenKind → Bool
 is_keyword_kind word (kind.Keyword own) = bytes_eq own word

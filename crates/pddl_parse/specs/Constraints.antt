@@ -5,7 +5,7 @@ use Rattle.up_text.specs.declared.place.Place.{Place}
 use Rattle.pddl_lex.specs.declared.tree.TokenKind.{TokenKind}
 use Rattle.pddl_lex.specs.declared.tree.TokenKind.TheVariants as kind
 use Rattle.pddl_lex.specs.declared.tree.Sexp.{Sexp, Leaf, Group', Row_of-Sexp, end_of-Sexp, more_of-Sexp, items-the_row-Sexp}
-use Rattle.pddl_lex.specs.Verdicts.{Verdict, fine, faulty, all, over, over_two, followed}
+use Rattle.pddl_lex.specs.Parses.{Parse, parsed, rejected, all, over, over_two, followed}
 use Rattle.pddl_parse.specs.declared.raw.RawFormula.{RawFormula}
 use Rattle.pddl_parse.specs.declared.raw.RawConstraint.{RawConstraint, And, Forall, Always, Sometime, AtMostOnce, SometimeAfter, SometimeBefore}
 use Rattle.pddl_parse.specs.declared.head.ConstraintHead.{ConstraintHead}
@@ -72,15 +72,15 @@ by_constraint_head head.And place first rest each = over And (all each)
 by_constraint_head head.Forall place first rest each = of_each place rest each
 by_constraint_head (head.Single s) place first rest each = on_one place s rest
 by_constraint_head (head.Paired p) place first rest each = on_two place p rest
-by_constraint_head head.Other place first rest each = faulty (unknown place first) []
+by_constraint_head head.Other place first rest each = rejected (unknown place first) []
 
 abbrev pub in_constraint : Place → List Sexp → List (Read RawConstraint) → Read RawConstraint
-in_constraint place [] each = faulty (Expected place) []
+in_constraint place [] each = rejected (Expected place) []
 in_constraint place (first ∷ rest) each = by_constraint_head (constraint_head first) place first rest (drop 1 each)
 
 unfoldable mutual
   pub constraint : Sexp → Read RawConstraint
-  constraint (Leaf token) = faulty (misfit_token token.place token) []
+  constraint (Leaf token) = rejected (misfit_token token.place token) []
   constraint (Group' place n row) = in_constraint place (items-the_row-Sexp _ row) (constraints row)
 
   pub constraints : {n : _} → Row_of-Sexp n → List (Read RawConstraint)

@@ -6,7 +6,7 @@ use Rattle.pddl_lex.specs.Trees.{place_of}
 use Rattle.pddl_lex.specs.declared.tree.TokenKind.{TokenKind}
 use Rattle.pddl_lex.specs.declared.tree.TokenKind.TheVariants as kind
 use Rattle.pddl_lex.specs.declared.tree.Sexp.{Sexp, Leaf, Group', Row_of-Sexp, end_of-Sexp, more_of-Sexp, items-the_row-Sexp}
-use Rattle.pddl_lex.specs.Verdicts.{Verdict, fine, faulty, all, over, over_two, followed}
+use Rattle.pddl_lex.specs.Parses.{Parse, parsed, rejected, all, over, over_two, followed}
 use Rattle.pddl_parse.specs.declared.raw.Ident.{Ident}
 use Rattle.pddl_parse.specs.declared.raw.RawTerm.{RawTerm}
 use Rattle.pddl_parse.specs.declared.raw.RawCall.{RawCall}
@@ -28,7 +28,7 @@ abbrev pub call_of : Place → Ident → List RawTerm → RawCall
 call_of place name args = record { place = place; name = name; args = args }
 
 abbrev pub in_call : Place → List Sexp → Read RawCall
-in_call place [] = faulty (Expected place) []
+in_call place [] = rejected (Expected place) []
 in_call place (head ∷ rest) = over_two (call_of place) (ident head) (all (map term rest))
 
 -- a name at arguments
@@ -62,7 +62,7 @@ is_undefined change.Assign tree = is_word (codes "undefined") tree
 is_undefined _ tree = false
 
 abbrev pub new_value : RawChange → Sexp → Read NewValue
-new_value c tree = if is_undefined c tree then fine (new.Undefined (place_of tree)) else over new.Value (term tree)
+new_value c tree = if is_undefined c tree then parsed (new.Undefined (place_of tree)) else over new.Value (term tree)
 
 abbrev pub changed : RawChange → RawCall → NewValue → RawEffect
 changed c target (new.Value value) = Change c target value
@@ -90,12 +90,12 @@ by_effect_head head.Other place first rest each = over Add (in_call place (first
 
 -- a bracket with these trees, which are read as these effects where they are effects
 abbrev pub in_effect : Place → List Sexp → List (Read RawEffect) → Read RawEffect
-in_effect place [] each = faulty (Expected place) []
+in_effect place [] each = rejected (Expected place) []
 in_effect place (first ∷ rest) each = by_effect_head (effect_head first) place first rest (drop 1 each)
 
 unfoldable mutual
   pub effect : Sexp → Read RawEffect
-  effect (Leaf token) = faulty (misfit_token token.place token) []
+  effect (Leaf token) = rejected (misfit_token token.place token) []
   effect (Group' place n row) = in_effect place (items-the_row-Sexp _ row) (effects row)
 
   pub effects : {n : _} → Row_of-Sexp n → List (Read RawEffect)

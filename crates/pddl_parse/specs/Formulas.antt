@@ -7,7 +7,7 @@ use Rattle.pddl_lex.specs.declared.tree.Sign.TheVariants as sign
 use Rattle.pddl_lex.specs.declared.tree.TokenKind.{TokenKind}
 use Rattle.pddl_lex.specs.declared.tree.TokenKind.TheVariants as kind
 use Rattle.pddl_lex.specs.declared.tree.Sexp.{Sexp, Leaf, Group', Row_of-Sexp, end_of-Sexp, more_of-Sexp, items-the_row-Sexp}
-use Rattle.pddl_lex.specs.Verdicts.{Verdict, fine, faulty, all, over, over_two, followed}
+use Rattle.pddl_lex.specs.Parses.{Parse, parsed, rejected, all, over, over_two, followed}
 use Rattle.pddl_parse.specs.declared.raw.Relation.{Relation}
 use Rattle.pddl_parse.specs.declared.raw.Relation.TheVariants as relation
 use Rattle.pddl_parse.specs.declared.raw.RawGroup.{RawGroup}
@@ -75,12 +75,12 @@ by_head head.Other place first rest each = over_two (λ p ts. Atom place p ts) (
 
 -- a bracket with these trees, which are read as these conditions where they are conditions
 abbrev pub in_formula : Place → List Sexp → List (Read RawFormula) → Read RawFormula
-in_formula place [] each = faulty (Expected place) []
+in_formula place [] each = rejected (Expected place) []
 in_formula place (first ∷ rest) each = by_head (head_of first) place first rest (drop 1 each)
 
 unfoldable mutual
   pub formula : Sexp → Read RawFormula
-  formula (Leaf token) = faulty (misfit_token token.place token) []
+  formula (Leaf token) = rejected (misfit_token token.place token) []
   formula (Group' place n row) = in_formula place (items-the_row-Sexp _ row) (formulas row)
 
   pub formulas : {n : _} → Row_of-Sexp n → List (Read RawFormula)

@@ -6,7 +6,7 @@ use Rattle.pddl_lex.specs.Trees.{place_of}
 use Rattle.pddl_lex.specs.declared.tree.TokenKind.{TokenKind}
 use Rattle.pddl_lex.specs.declared.tree.TokenKind.TheVariants as kind
 use Rattle.pddl_lex.specs.declared.tree.Sexp.{Sexp, Leaf, Group'}
-use Rattle.pddl_lex.specs.Verdicts.{Verdict, fine, faulty, all, over, over_two, behind, followed}
+use Rattle.pddl_lex.specs.Parses.{Parse, parsed, rejected, all, over, over_two, behind, followed}
 use Rattle.pddl_parse.specs.declared.raw.Ident.{Ident}
 use Rattle.pddl_parse.specs.declared.raw.RawFormula.{RawFormula}
 use Rattle.pddl_parse.specs.declared.raw.RawConstraint.{RawConstraint}
@@ -52,7 +52,7 @@ refusal (Some word) tree = if is_known word then [] else LeftOut (place_of tree)
 refusal None tree = misfit tree ∷ []
 
 abbrev pub requirements : {A : Type 0} → A → List Sexp → Read A
-requirements whole [] = fine whole
+requirements whole [] = parsed whole
 requirements whole (tree ∷ rest) = behind (refusal (keyword_of tree) tree) (requirements whole rest)
 
 -- what stands alone in a section
@@ -86,16 +86,16 @@ domain_body domain.Action place rest = over in_domain.Action (action place rest)
 domain_body domain.Constraints place rest = over in_domain.Constraints (alone place whole_constraint rest)
 
 abbrev pub domain_known : Option DomainKey → List ℕ → List Sexp → Place → List Sexp → Read DomainSection
-domain_known None word before place rest = faulty (LeftOut place) []
+domain_known None word before place rest = rejected (LeftOut place) []
 domain_known (Some key) word before place rest =
-    if stands_once key && has_section word before then faulty (Duplicate place) [] else domain_body key place rest
+    if stands_once key && has_section word before then rejected (Duplicate place) [] else domain_body key place rest
 
 abbrev pub domain_named : Option (List ℕ) → List Sexp → Place → Sexp → List Sexp → Read DomainSection
-domain_named None before place head rest = faulty (misfit head) []
+domain_named None before place head rest = rejected (misfit head) []
 domain_named (Some word) before place head rest = domain_known (domain_key word) word before place rest
 
 abbrev pub in_domain_section : List Sexp → Place → List Sexp → Read DomainSection
-in_domain_section before place [] = faulty (Expected place) []
+in_domain_section before place [] = rejected (Expected place) []
 in_domain_section before place (head ∷ rest) = domain_named (keyword_of head) before place head rest
 
 -- a section behind others
@@ -104,7 +104,7 @@ domain_section before tree = bracket (in_domain_section before) tree
 
 -- sections behind others
 abbrev pub domain_sections : List Sexp → List Sexp → Read (List DomainSection)
-domain_sections before [] = fine []
+domain_sections before [] = parsed []
 domain_sections before (tree ∷ rest) = over_two (λ s ss. s ∷ ss) (domain_section before tree) (domain_sections (before ++ tree ∷ []) rest)
 
 -- ---- the problem's
@@ -129,21 +129,21 @@ problem_body problem.Constraints place rest = over in_problem.Constraints (alone
 problem_body problem.Metric place rest = over in_problem.Metric (metric place rest)
 
 abbrev pub problem_known : Option ProblemKey → List ℕ → List Sexp → Place → List Sexp → Read ProblemSection
-problem_known None word before place rest = faulty (LeftOut place) []
+problem_known None word before place rest = rejected (LeftOut place) []
 problem_known (Some key) word before place rest =
-    if has_section word before then faulty (Duplicate place) [] else problem_body key place rest
+    if has_section word before then rejected (Duplicate place) [] else problem_body key place rest
 
 abbrev pub problem_named : Option (List ℕ) → List Sexp → Place → Sexp → List Sexp → Read ProblemSection
-problem_named None before place head rest = faulty (misfit head) []
+problem_named None before place head rest = rejected (misfit head) []
 problem_named (Some word) before place head rest = problem_known (problem_key word) word before place rest
 
 abbrev pub in_problem_section : List Sexp → Place → List Sexp → Read ProblemSection
-in_problem_section before place [] = faulty (Expected place) []
+in_problem_section before place [] = rejected (Expected place) []
 in_problem_section before place (head ∷ rest) = problem_named (keyword_of head) before place head rest
 
 abbrev pub problem_section : List Sexp → Sexp → Read ProblemSection
 problem_section before tree = bracket (in_problem_section before) tree
 
 abbrev pub problem_sections : List Sexp → List Sexp → Read (List ProblemSection)
-problem_sections before [] = fine []
+problem_sections before [] = parsed []
 problem_sections before (tree ∷ rest) = over_two (λ s ss. s ∷ ss) (problem_section before tree) (problem_sections (before ++ tree ∷ []) rest)

@@ -7,14 +7,14 @@ use Rattle.pddl_lex.specs.declared.tree.Token.{Token}
 use Rattle.pddl_lex.specs.declared.tree.TokenKind.{TokenKind}
 use Rattle.pddl_lex.specs.declared.tree.TokenKind.TheVariants as kind
 use Rattle.pddl_lex.specs.declared.tree.Sexp.{Sexp, Leaf, Group', items-the_row-Sexp}
-use Rattle.pddl_lex.specs.Verdicts.{Verdict, fine, faulty, faults, over_two}
+use Rattle.pddl_lex.specs.Parses.{Parse, parsed, rejected, faults, over_two}
 use Rattle.pddl_parse.specs.declared.raw.Ident.{Ident}
 use Rattle.pddl_parse.specs.declared.shape.ShapeError.{ShapeError}
 use Rattle.pddl_parse.specs.declared.shape.ShapeError.TheVariants.{Expected, LeftOut}
 
 -- what a tree is read as, or its faults
 abbrev pub Read : Type 0 → Type 0
-Read A = Verdict ShapeError A
+Read A = Parse ShapeError A
 
 abbrev pub is_left_out : List ℕ → Bool
 is_left_out word = bytes_eq word (codes "either") || bytes_eq word (codes "preference") || bytes_eq word (codes "undefined") || bytes_eq word (codes "total-time")
@@ -55,35 +55,35 @@ lacking false place = []
 
 -- the first of the operands of a bracket at this place
 abbrev pub one : {A : Type 0} → Place → List (Read A) → Read A
-one place [] = faulty (Expected place) []
+one place [] = rejected (Expected place) []
 one place (a ∷ rest) = a
 
 -- the first two operands of a bracket at this place, each by its own kind
 abbrev pub two : {A B C : Type 0} → Place → (A → B → C) → List (Read A) → List (Read B) → Read C
-two place g [] bs = faulty (Expected place) []
-two place g (a ∷ rest) [] = faulty (Expected place) (faults a)
-two place g (a ∷ rest) (b ∷ []) = faulty (Expected place) (faults a)
+two place g [] bs = rejected (Expected place) []
+two place g (a ∷ rest) [] = rejected (Expected place) (faults a)
+two place g (a ∷ rest) (b ∷ []) = rejected (Expected place) (faults a)
 two place g (a ∷ rest) (b ∷ c ∷ others) = over_two g a c
 
 abbrev pub named : Place → ShapeError → Option (List ℕ) → Read Ident
-named place fault (Some name) = fine (record { name = name; place = place })
-named place fault None = faulty fault []
+named place fault (Some name) = parsed (record { name = name; place = place })
+named place fault None = rejected fault []
 
 abbrev pub kind_ident : Place → TokenKind → Read Ident
 kind_ident place (kind.Word word) = named place (word_fault word place) (name_of word)
-kind_ident place _ = faulty (Expected place) []
+kind_ident place _ = rejected (Expected place) []
 
 abbrev pub kind_variable : Place → TokenKind → Read Ident
 kind_variable place (kind.Variable name) = named place (Expected place) (name_of name)
-kind_variable place (kind.Word word) = faulty (word_fault word place) []
-kind_variable place _ = faulty (Expected place) []
+kind_variable place (kind.Word word) = rejected (word_fault word place) []
+kind_variable place _ = rejected (Expected place) []
 
 -- a name
 unfoldable pub ident : Sexp → Read Ident
 ident (Leaf token) = kind_ident token.place token.kind
-ident (Group' place n row) = faulty (misfit (Group' place n row)) []
+ident (Group' place n row) = rejected (misfit (Group' place n row)) []
 
 -- a variable
 unfoldable pub variable : Sexp → Read Ident
 variable (Leaf token) = kind_variable token.place token.kind
-variable (Group' place n row) = faulty (misfit (Group' place n row)) []
+variable (Group' place n row) = rejected (misfit (Group' place n row)) []

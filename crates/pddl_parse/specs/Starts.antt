@@ -5,7 +5,7 @@ use Rattle.pddl_lex.specs.declared.tree.Sign.TheVariants as sign
 use Rattle.pddl_lex.specs.declared.tree.TokenKind.{TokenKind}
 use Rattle.pddl_lex.specs.declared.tree.TokenKind.TheVariants as kind
 use Rattle.pddl_lex.specs.declared.tree.Sexp.{Sexp, Leaf, Group'}
-use Rattle.pddl_lex.specs.Verdicts.{Verdict, fine, faulty, all, over, over_two, followed}
+use Rattle.pddl_lex.specs.Parses.{Parse, parsed, rejected, all, over, over_two, followed}
 use Rattle.pddl_parse.specs.declared.raw.Ident.{Ident}
 use Rattle.pddl_parse.specs.declared.raw.RawTerm.{RawTerm}
 use Rattle.pddl_parse.specs.declared.raw.RawGround.{RawGround}
@@ -25,7 +25,7 @@ abbrev pub ground_of : Place → Ident → List Ident → RawGround
 ground_of place name args = record { place = place; name = name; args = args }
 
 abbrev pub in_ground : Place → List Sexp → Read RawGround
-in_ground place [] = faulty (Expected place) []
+in_ground place [] = rejected (Expected place) []
 in_ground place (head ∷ rest) = over_two (ground_of place) (ident head) (all (map ident rest))
 
 -- a name at names
@@ -33,13 +33,13 @@ abbrev pub ground : Sexp → Read RawGround
 ground tree = bracket in_ground tree
 
 abbrev pub kind_value : Place → TokenKind → Read RawValue
-kind_value place (kind.Number number) = fine (value.Number place number)
+kind_value place (kind.Number number) = parsed (value.Number place number)
 kind_value place k = over value.Object (kind_ident place k)
 
 -- the value of a function: a number or a name
 unfoldable pub initial_value : Sexp → Read RawValue
 initial_value (Leaf token) = kind_value token.place token.kind
-initial_value (Group' place n row) = faulty (misfit (Group' place n row)) []
+initial_value (Group' place n row) = rejected (misfit (Group' place n row)) []
 
 abbrev pub is_same_kind : TokenKind → Bool
 is_same_kind (kind.Sign sign.Same) = true
@@ -64,7 +64,7 @@ by_init_head head.Same place first rest = assigned place rest
 by_init_head head.Other place first rest = over Atom (in_ground place (first ∷ rest))
 
 abbrev pub in_init : Place → List Sexp → Read RawInit
-in_init place [] = faulty (Expected place) []
+in_init place [] = rejected (Expected place) []
 in_init place (first ∷ rest) = by_init_head (init_head first) place first rest
 
 -- a member of the initial state
@@ -74,8 +74,8 @@ initial tree = bracket in_init tree
 -- whether a metric is minimised
 abbrev pub minimizes : Sexp → Read Bool
 minimizes tree =
-    if is_word (codes "minimize") tree then fine true else
-    if is_word (codes "maximize") tree then fine false else faulty (misfit tree) []
+    if is_word (codes "minimize") tree then parsed true else
+    if is_word (codes "maximize") tree then parsed false else rejected (misfit tree) []
 
 abbrev pub metric_of : Bool → RawTerm → RawMetric
 metric_of minimize value = record { minimize = minimize; value = value }

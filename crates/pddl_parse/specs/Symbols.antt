@@ -3,7 +3,7 @@ use Rattle.std.specs.Prelude.{ℕ, Bool, true, false, if◌then◌else◌, List,
 use Rattle.std.specs.Str.{bytes_eq}
 use Rattle.up_text.specs.declared.place.Place.{Place}
 use Rattle.pddl_lex.specs.declared.tree.Sexp.{Sexp}
-use Rattle.pddl_lex.specs.Verdicts.{Verdict, fine, faulty, faults, all, over, over_two, behind}
+use Rattle.pddl_lex.specs.Parses.{Parse, parsed, rejected, faults, all, over, over_two, behind}
 use Rattle.pddl_parse.specs.declared.raw.Ident.{Ident}
 use Rattle.pddl_parse.specs.declared.raw.RawGroup.{RawGroup}
 use Rattle.pddl_parse.specs.declared.raw.RawSymbol.{RawSymbol}
@@ -20,7 +20,7 @@ abbrev pub symbol_of : Ident → List RawGroup → RawSymbol
 symbol_of name params = record { name = name; params = params }
 
 abbrev pub in_symbol : Place → List Sexp → Read RawSymbol
-in_symbol place [] = faulty (Expected place) []
+in_symbol place [] = rejected (Expected place) []
 in_symbol place (head ∷ rest) =
     behind (short (ends_in_minus rest) place (head ∷ rest)) (over_two symbol_of (ident head) (typed item.Variable place rest [] false))
 
@@ -33,7 +33,7 @@ predicates items = all (map symbol items)
 
 -- the type of functions
 abbrev pub gives : Sexp → Read RawGives
-gives tree = if is_word (codes "number") tree then fine given.Number else over given.Object (ident tree)
+gives tree = if is_word (codes "number") tree then parsed given.Number else over given.Object (ident tree)
 
 -- how the rest of a list is read behind functions that have no type yet, where a type is due or not
 abbrev pub GoOn : Type 0
@@ -44,17 +44,17 @@ functions_of functions type = record { functions = functions; gives = type }
 
 -- at the end, where a type is due or not
 abbrev pub last_functions : Place → List RawSymbol → Bool → Read (List RawFunctions)
-last_functions place functions true = faulty (Expected place) []
-last_functions place [] false = fine []
-last_functions place (f ∷ fs) false = fine (functions_of (f ∷ fs) given.Number ∷ [])
+last_functions place functions true = rejected (Expected place) []
+last_functions place [] false = parsed []
+last_functions place (f ∷ fs) false = parsed (functions_of (f ∷ fs) given.Number ∷ [])
 
 abbrev pub minus_after : Sexp → List RawSymbol → GoOn → Read (List RawFunctions)
 minus_after tree [] go = behind (misfit tree ∷ []) (go [] true)
 minus_after tree (f ∷ fs) go = go (f ∷ fs) true
 
 abbrev pub one_more : Read RawSymbol → List RawSymbol → GoOn → Read (List RawFunctions)
-one_more (fine f) functions go = go (functions ++ f ∷ []) false
-one_more (faulty f fs) functions go = behind (f ∷ fs) (go functions false)
+one_more (parsed f) functions go = go (functions ++ f ∷ []) false
+one_more (rejected f fs) functions go = behind (f ∷ fs) (go functions false)
 
 abbrev pub declared_step : Sexp → List RawSymbol → Bool → GoOn → Read (List RawFunctions)
 declared_step tree functions true go = over_two (λ type groups. functions_of functions type ∷ groups) (gives tree) (go [] false)

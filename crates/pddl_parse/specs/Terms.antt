@@ -8,7 +8,7 @@ use Rattle.pddl_lex.specs.declared.tree.Sign.TheVariants as sign
 use Rattle.pddl_lex.specs.declared.tree.TokenKind.{TokenKind}
 use Rattle.pddl_lex.specs.declared.tree.TokenKind.TheVariants as kind
 use Rattle.pddl_lex.specs.declared.tree.Sexp.{Sexp, Leaf, Group', Row_of-Sexp, end_of-Sexp, more_of-Sexp, items-the_row-Sexp}
-use Rattle.pddl_lex.specs.Verdicts.{Verdict, fine, faulty, all, over, over_two, behind, followed}
+use Rattle.pddl_lex.specs.Parses.{Parse, parsed, rejected, all, over, over_two, behind, followed}
 use Rattle.pddl_parse.specs.declared.raw.Operator.{Operator}
 use Rattle.pddl_parse.specs.declared.raw.Operator.TheVariants as operator
 use Rattle.pddl_parse.specs.declared.raw.RawTerm.{RawTerm, Name, Variable, Number, Call, Arithmetic}
@@ -19,8 +19,8 @@ use Rattle.pddl_parse.specs.Shapes.{Read, misfit, kind_ident, kind_variable, ide
 abbrev pub kind_term : Place → TokenKind → Read RawTerm
 kind_term place (kind.Word word) = over Name (kind_ident place (kind.Word word))
 kind_term place (kind.Variable name) = over Variable (kind_variable place (kind.Variable name))
-kind_term place (kind.Number number) = fine (Number place number)
-kind_term place _ = faulty (Expected place) []
+kind_term place (kind.Number number) = parsed (Number place number)
+kind_term place _ = rejected (Expected place) []
 
 abbrev pub sign_operator : Sign → Option Operator
 sign_operator sign.Plus = Some operator.Sum
@@ -59,7 +59,7 @@ by_operator (Some op) place head rest each = arithmetic op place rest each
 
 -- a bracket with these trees, which are read as these terms where they are terms
 abbrev pub in_term : Place → List Sexp → List (Read RawTerm) → Read RawTerm
-in_term place [] each = faulty (Expected place) []
+in_term place [] each = rejected (Expected place) []
 in_term place (head ∷ rest) each = by_operator (operator_of head) place head rest (drop 1 each)
 
 unfoldable mutual

@@ -2,7 +2,7 @@
 use Rattle.std.specs.Prelude.{ℕ, Bool, true, false, ◌&&◌, ◌||◌, not, if◌then◌else◌, List, [], ◌∷◌, ◌++◌, map, drop, codes, Option, Some, None}
 use Rattle.up_text.specs.declared.place.Place.{Place}
 use Rattle.pddl_lex.specs.declared.tree.Sexp.{Sexp}
-use Rattle.pddl_lex.specs.Verdicts.{Verdict, fine, faulty, over, over_two, behind, followed}
+use Rattle.pddl_lex.specs.Parses.{Parse, parsed, rejected, over, over_two, behind, followed}
 use Rattle.pddl_parse.specs.declared.raw.Ident.{Ident}
 use Rattle.pddl_parse.specs.declared.raw.RawFormula.{RawFormula}
 use Rattle.pddl_parse.specs.declared.raw.RawConstraint as constraint
@@ -24,8 +24,8 @@ abbrev pub unlike : List ℕ → Sexp → List ShapeError
 unlike word tree = if is_word word tree then [] else misfit tree ∷ []
 
 abbrev pub in_title : List ℕ → Place → List Sexp → Read Ident
-in_title word place [] = faulty (Expected place) []
-in_title word place (head ∷ []) = faulty (misfit_group place (head ∷ [])) []
+in_title word place [] = rejected (Expected place) []
+in_title word place (head ∷ []) = rejected (misfit_group place (head ∷ [])) []
 in_title word place (head ∷ name ∷ others) = behind (unlike word head) (followed (ident name) (extra others))
 
 -- `(word N)`
@@ -34,7 +34,7 @@ title word tree = bracket (in_title word) tree
 
 -- the first tree alone, and 1:1 where there is none
 abbrev pub only : {A : Type 0} → (Sexp → Read A) → List Sexp → Read A
-only f [] = faulty (Expected (record { line = 1; column = 1 })) []
+only f [] = rejected (Expected (record { line = 1; column = 1 })) []
 only f (tree ∷ others) = followed (f tree) (extra others)
 
 -- ---- domains
@@ -56,8 +56,8 @@ with_sections form [] = form
 with_sections form (s ∷ ss) = with_sections (with_section form s) ss
 
 abbrev pub in_domain_text : Place → List Sexp → Read DomainForm
-in_domain_text place [] = faulty (Expected place) []
-in_domain_text place (head ∷ []) = faulty (misfit_group place (head ∷ [])) []
+in_domain_text place [] = rejected (Expected place) []
+in_domain_text place (head ∷ []) = rejected (misfit_group place (head ∷ [])) []
 in_domain_text place (head ∷ second ∷ rest) =
     behind (unlike (codes "define") head)
     (over_two (λ name ss. with_sections (bare_domain name) ss) (title (codes "domain") second) (domain_sections [] rest))
@@ -89,20 +89,20 @@ put_sections parts (s ∷ ss) = put_sections (put_section parts s) ss
 
 abbrev pub complete : Place → Option Ident → Option RawFormula → ProblemParts → Read ProblemForm
 complete place (Some domain) (Some goal) parts =
-    fine (record { name = parts.name; domain = domain; objects = parts.objects; init = parts.init; goal = goal; constraints = parts.constraints; metric = parts.metric })
-complete place _ _ parts = faulty (Expected place) []
+    parsed (record { name = parts.name; domain = domain; objects = parts.objects; init = parts.init; goal = goal; constraints = parts.constraints; metric = parts.metric })
+complete place _ _ parts = rejected (Expected place) []
 
 -- a problem has its domain and its goal
 abbrev pub whole : Place → Read ProblemParts → Read ProblemForm
-whole place (fine parts) = complete place parts.domain parts.goal parts
-whole place (faulty f fs) = faulty f fs
+whole place (parsed parts) = complete place parts.domain parts.goal parts
+whole place (rejected f fs) = rejected f fs
 
 abbrev pub lacks_section : List Sexp → Bool
 lacks_section rest = not (has_section (codes "domain") rest) || not (has_section (codes "goal") rest)
 
 abbrev pub in_problem_text : Place → List Sexp → Read ProblemForm
-in_problem_text place [] = faulty (Expected place) []
-in_problem_text place (head ∷ []) = faulty (misfit_group place (head ∷ [])) []
+in_problem_text place [] = rejected (Expected place) []
+in_problem_text place (head ∷ []) = rejected (misfit_group place (head ∷ [])) []
 in_problem_text place (head ∷ second ∷ rest) =
     behind (short (lacks_section rest) place (head ∷ second ∷ rest))
     (behind (unlike (codes "define") head)

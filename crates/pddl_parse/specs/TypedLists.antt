@@ -6,7 +6,7 @@ use Rattle.pddl_lex.specs.declared.tree.Sign.TheVariants as sign
 use Rattle.pddl_lex.specs.declared.tree.TokenKind.{TokenKind}
 use Rattle.pddl_lex.specs.declared.tree.TokenKind.TheVariants as kind
 use Rattle.pddl_lex.specs.declared.tree.Sexp.{Sexp, Leaf, Group', items-the_row-Sexp}
-use Rattle.pddl_lex.specs.Verdicts.{Verdict, fine, faulty, faults, over_two, behind}
+use Rattle.pddl_lex.specs.Parses.{Parse, parsed, rejected, faults, over_two, behind}
 use Rattle.pddl_parse.specs.declared.raw.Ident.{Ident}
 use Rattle.pddl_parse.specs.declared.raw.RawGroup.{RawGroup}
 use Rattle.pddl_parse.specs.declared.typed.Item.{Item}
@@ -40,17 +40,17 @@ Go = List Ident → Bool → Read (List RawGroup)
 
 -- at the end, where a type is due or not
 abbrev pub last_group : Place → List Ident → Bool → Read (List RawGroup)
-last_group place names true = faulty (Expected place) []
-last_group place [] false = fine []
-last_group place (name ∷ names) false = fine (record { names = name ∷ names; of = None } ∷ [])
+last_group place names true = rejected (Expected place) []
+last_group place [] false = parsed []
+last_group place (name ∷ names) false = parsed (record { names = name ∷ names; of = None } ∷ [])
 
 abbrev pub on_minus : Sexp → List Ident → Go → Read (List RawGroup)
 on_minus tree [] go = behind (misfit tree ∷ []) (go [] true)
 on_minus tree (name ∷ names) go = go (name ∷ names) true
 
 abbrev pub on_name : Read Ident → List Ident → Go → Read (List RawGroup)
-on_name (fine name) names go = go (names ++ name ∷ []) false
-on_name (faulty f fs) names go = behind (f ∷ fs) (go names false)
+on_name (parsed name) names go = go (names ++ name ∷ []) false
+on_name (rejected f fs) names go = behind (f ∷ fs) (go names false)
 
 abbrev pub typed_step : Item → Sexp → List Ident → Bool → Go → Read (List RawGroup)
 typed_step what tree names true go = over_two (λ t groups. record { names = names; of = Some t } ∷ groups) (ident tree) (go [] false)
@@ -70,5 +70,5 @@ variable_list place items = behind (short (ends_in_minus items) place items) (ty
 
 -- variables in a bracket
 unfoldable pub variables : Sexp → Read (List RawGroup)
-variables (Leaf token) = faulty (misfit_token token.place token) []
+variables (Leaf token) = rejected (misfit_token token.place token) []
 variables (Group' place n row) = variable_list place (items-the_row-Sexp _ row)

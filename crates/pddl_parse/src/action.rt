@@ -1,5 +1,5 @@
 ghost use Rattle.std.specs.Prelude.{◌≡◌, [], Some, IfOk, IfErr};
-ghost use Rattle.pddl_lex.specs.Verdicts.{fine, faulty, first, over};
+ghost use Rattle.pddl_lex.specs.Parses.{parsed, rejected, first, over};
 ghost use Rattle.pddl_parse.specs.Effects.{whole_effect};
 ghost use Rattle.pddl_parse.specs.Actions.{condition, key_word, key_kind, action_head, no_keys, has_key, with_key, by_head, fresh_key, lacks_value, part_of, parts, put, filled, bare, as_action, action};
 
@@ -57,7 +57,7 @@ pub struct ActionParts {
 /// A condition as the whole value of a key or a section.
 #[tactic(auto, using(crate::proofs::Steps::steps))]
 pub fn condition(alloc: Global, tree: &Sexp) -> Result<RawFormula, ShapeError>
-    ensures ok { IfOk result (λ it. condition tree.now ≡ fine it) }
+    ensures ok { IfOk result (λ it. condition tree.now ≡ parsed it) }
     ensures err { IfErr result (λ e. ¬ (e ≡ ShapeError.Memory) → first (condition tree.now) ≡ Some e) }
 {
     if is_empty(tree) {
@@ -68,7 +68,7 @@ pub fn condition(alloc: Global, tree: &Sexp) -> Result<RawFormula, ShapeError>
 
 /// The same in a box.
 pub fn boxed_condition(alloc: Global, tree: &Sexp) -> Result<Box<RawFormula>, ShapeError>
-    ensures ok { IfOk result (λ it. condition tree.now ≡ fine it) }
+    ensures ok { IfOk result (λ it. condition tree.now ≡ parsed it) }
     ensures err { IfErr result (λ e. ¬ (e ≡ ShapeError.Memory) → first (condition tree.now) ≡ Some e) }
 {
     let read = condition(alloc, tree)?;
@@ -76,7 +76,7 @@ pub fn boxed_condition(alloc: Global, tree: &Sexp) -> Result<Box<RawFormula>, Sh
 }
 
 fn boxed_effect(alloc: Global, tree: &Sexp) -> Result<Box<RawEffect>, ShapeError>
-    ensures ok { IfOk result (λ it. whole_effect tree.now ≡ fine it) }
+    ensures ok { IfOk result (λ it. whole_effect tree.now ≡ parsed it) }
     ensures err { IfErr result (λ e. ¬ (e ≡ ShapeError.Memory) → first (whole_effect tree.now) ≡ Some e) }
 {
     let read = whole_effect(alloc, tree)?;
@@ -161,8 +161,8 @@ impl ActionKeys {
 }
 
 fn by_head(head: ActionHead, keys: ActionKeys, tree: &Sexp) -> Result<ActionKey, ShapeError>
-    ensures ok { IfOk result (λ key. by_head head keys tree.now ≡ fine key) }
-    ensures err { IfErr result (λ e. by_head head keys tree.now ≡ faulty e []) }
+    ensures ok { IfOk result (λ key. by_head head keys tree.now ≡ parsed key) }
+    ensures err { IfErr result (λ e. by_head head keys tree.now ≡ rejected e []) }
 {
     match head {
         ActionHead::Key(key) => {
@@ -182,8 +182,8 @@ fn by_head(head: ActionHead, keys: ActionKeys, tree: &Sexp) -> Result<ActionKey,
 }
 
 fn fresh_key(keys: ActionKeys, tree: &Sexp) -> Result<ActionKey, ShapeError>
-    ensures ok { IfOk result (λ key. fresh_key keys tree.now ≡ fine key) }
-    ensures err { IfErr result (λ e. fresh_key keys tree.now ≡ faulty e []) }
+    ensures ok { IfOk result (λ key. fresh_key keys tree.now ≡ parsed key) }
+    ensures err { IfErr result (λ e. fresh_key keys tree.now ≡ rejected e []) }
 {
     by_head(action_head(tree), keys, tree)
 }
@@ -209,7 +209,7 @@ fn lacks_value(items: &[Sexp]) -> bool
 
 #[tactic(auto, using(crate::proofs::Steps::steps))]
 fn part_of(alloc: Global, key: ActionKey, tree: &Sexp) -> Result<ActionPart, ShapeError>
-    ensures ok { IfOk result (λ it. part_of key tree.now ≡ fine it) }
+    ensures ok { IfOk result (λ it. part_of key tree.now ≡ parsed it) }
     ensures err { IfErr result (λ e. ¬ (e ≡ ShapeError.Memory) → first (part_of key tree.now) ≡ Some e) }
 {
     match key {
@@ -257,7 +257,7 @@ fn parts(
     start: ActionParts,
     items: &[Sexp],
 ) -> Result<ActionParts, ShapeError>
-    ensures ok { IfOk result (λ it. over (filled start) (parts place no_keys items.now) ≡ fine it) }
+    ensures ok { IfOk result (λ it. over (filled start) (parts place no_keys items.now) ≡ parsed it) }
     ensures err { IfErr result (λ e. ¬ (e ≡ ShapeError.Memory) → first (over (filled start) (parts place no_keys items.now)) ≡ Some e) }
 {
     let mut action = start;
@@ -309,7 +309,7 @@ fn as_action(parts: ActionParts) -> RawAction
 /// What stands in an action's bracket at this place behind its keyword.
 #[tactic(auto, using(crate::proofs::Steps::steps))]
 pub fn action(alloc: Global, place: Place, items: &[Sexp]) -> Result<RawAction, ShapeError>
-    ensures ok { IfOk result (λ it. action place items.now ≡ fine it) }
+    ensures ok { IfOk result (λ it. action place items.now ≡ parsed it) }
     ensures err { IfErr result (λ e. ¬ (e ≡ ShapeError.Memory) → first (action place items.now) ≡ Some e) }
 {
     let Some((head, rest)) = items.split_first() else {

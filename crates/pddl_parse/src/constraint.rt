@@ -1,5 +1,5 @@
 ghost use Rattle.std.specs.Prelude.{◌≡◌, Some, IfOk, IfErr, map};
-ghost use Rattle.pddl_lex.specs.Verdicts.{fine, first, all, followed};
+ghost use Rattle.pddl_lex.specs.Parses.{parsed, first, all, followed};
 ghost use Rattle.pddl_parse.specs.Shapes.{extra};
 ghost use Rattle.pddl_parse.specs.Constraints.{unknown_kind, unknown, of_one, of_two, of_each, on_one, on_two, constraint, whole_constraint};
 
@@ -65,7 +65,7 @@ fn on_one(
     single: Single,
     rest: &[Sexp],
 ) -> Result<RawConstraint, ShapeError>
-    ensures ok { IfOk result (λ it. on_one place single rest.now ≡ fine it) }
+    ensures ok { IfOk result (λ it. on_one place single rest.now ≡ parsed it) }
     ensures err { IfErr result (λ e. ¬ (e ≡ ShapeError.Memory) → first (on_one place single rest.now) ≡ Some e) }
 {
     let Some((tree, others)) = rest.split_first() else {
@@ -83,7 +83,7 @@ fn on_two(
     paired: Paired,
     rest: &[Sexp],
 ) -> Result<RawConstraint, ShapeError>
-    ensures ok { IfOk result (λ it. on_two place paired rest.now ≡ fine it) }
+    ensures ok { IfOk result (λ it. on_two place paired rest.now ≡ parsed it) }
     ensures err { IfErr result (λ e. ¬ (e ≡ ShapeError.Memory) → first (on_two place paired rest.now) ≡ Some e) }
 {
     let Some((one, others)) = rest.split_first() else {
@@ -111,8 +111,8 @@ fn each_of(
     body: Box<RawConstraint>,
     others: &[Sexp],
 ) -> Result<RawConstraint, ShapeError>
-    ensures ok { IfOk result (λ it. followed (fine (RawConstraint.Forall vars body)) (extra others.now) ≡ fine it) }
-    ensures err { IfErr result (λ e. ¬ (e ≡ ShapeError.Memory) → first (followed (fine (RawConstraint.Forall vars body)) (extra others.now)) ≡ Some e) }
+    ensures ok { IfOk result (λ it. followed (parsed (RawConstraint.Forall vars body)) (extra others.now) ≡ parsed it) }
+    ensures err { IfErr result (λ e. ¬ (e ≡ ShapeError.Memory) → first (followed (parsed (RawConstraint.Forall vars body)) (extra others.now)) ≡ Some e) }
 {
     no_extra(others)?;
     Ok(RawConstraint::Forall(vars, body))
@@ -121,7 +121,7 @@ fn each_of(
 #[cycle(constraint)]
 #[tactic(auto, using(crate::proofs::Steps::steps))]
 fn for_all(alloc: Global, place: Place, rest: &[Sexp]) -> Result<RawConstraint, ShapeError>
-    ensures ok { IfOk result (λ it. of_each place rest.now (map constraint rest.now) ≡ fine it) }
+    ensures ok { IfOk result (λ it. of_each place rest.now (map constraint rest.now) ≡ parsed it) }
     ensures err { IfErr result (λ e. ¬ (e ≡ ShapeError.Memory) → first (of_each place rest.now (map constraint rest.now)) ≡ Some e) }
 {
     let Some((one, others)) = rest.split_first() else {
@@ -138,7 +138,7 @@ fn for_all(alloc: Global, place: Place, rest: &[Sexp]) -> Result<RawConstraint, 
 #[cycle(constraint)]
 #[tactic(auto, using(crate::proofs::Steps::steps))]
 fn raw_constraints(alloc: Global, items: &[Sexp]) -> Result<List<RawConstraint>, ShapeError>
-    ensures ok { IfOk result (λ them. all (map constraint items.now) ≡ fine them) }
+    ensures ok { IfOk result (λ them. all (map constraint items.now) ≡ parsed them) }
     ensures err { IfErr result (λ e. ¬ (e ≡ ShapeError.Memory) → first (all (map constraint items.now)) ≡ Some e) }
 {
     let mut made = List::new(alloc);
@@ -151,7 +151,7 @@ fn raw_constraints(alloc: Global, items: &[Sexp]) -> Result<List<RawConstraint>,
 #[cycle(constraint)]
 #[tactic(auto, using(crate::proofs::Nodes::constraint_nodes, crate::proofs::Steps::steps))]
 fn raw_constraint(alloc: Global, tree: &Sexp) -> Result<RawConstraint, ShapeError>
-    ensures ok { IfOk result (λ it. constraint tree.now ≡ fine it) }
+    ensures ok { IfOk result (λ it. constraint tree.now ≡ parsed it) }
     ensures err { IfErr result (λ e. ¬ (e ≡ ShapeError.Memory) → first (constraint tree.now) ≡ Some e) }
 {
     let (place, items) = match tree {
@@ -173,7 +173,7 @@ fn raw_constraint(alloc: Global, tree: &Sexp) -> Result<RawConstraint, ShapeErro
 /// The constraint of a section.
 #[tactic(auto, using(crate::proofs::Steps::steps))]
 pub fn whole_constraint(alloc: Global, tree: &Sexp) -> Result<RawConstraint, ShapeError>
-    ensures ok { IfOk result (λ it. whole_constraint tree.now ≡ fine it) }
+    ensures ok { IfOk result (λ it. whole_constraint tree.now ≡ parsed it) }
     ensures err { IfErr result (λ e. ¬ (e ≡ ShapeError.Memory) → first (whole_constraint tree.now) ≡ Some e) }
 {
     if is_empty(tree) {

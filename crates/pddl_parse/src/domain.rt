@@ -1,5 +1,5 @@
 ghost use Rattle.std.specs.Prelude.{◌≡◌, [], Some, IfOk, IfErr, OnOk, OnErr};
-ghost use Rattle.pddl_lex.specs.Verdicts.{fine, first, over};
+ghost use Rattle.pddl_lex.specs.Parses.{parsed, first, over};
 ghost use Rattle.pddl_parse.specs.Sections.{domain_sections};
 ghost use Rattle.pddl_parse.specs.Texts.{bare_domain, with_section, with_sections, in_domain_text, domain_text, domain};
 
@@ -68,7 +68,7 @@ fn with_section(form: DomainForm, section: DomainSection) -> Result<DomainForm, 
 // One more section.
 #[tactic(auto, using(crate::proofs::Steps::steps, crate::proofs::Filling::filling))]
 fn with_sections(alloc: Global, start: DomainForm, items: &[Sexp]) -> Result<DomainForm, ShapeError>
-    ensures ok { IfOk result (λ it. over (with_sections start) (domain_sections [] items.now) ≡ fine it) }
+    ensures ok { IfOk result (λ it. over (with_sections start) (domain_sections [] items.now) ≡ parsed it) }
     ensures err { IfErr result (λ e. ¬ (e ≡ ShapeError.Memory) → first (over (with_sections start) (domain_sections [] items.now)) ≡ Some e) }
 {
     let mut form = start;
@@ -81,7 +81,7 @@ fn with_sections(alloc: Global, start: DomainForm, items: &[Sexp]) -> Result<Dom
 
 #[tactic(auto, using(crate::proofs::Steps::steps))]
 fn in_domain_text(alloc: Global, place: Place, items: &[Sexp]) -> Result<DomainForm, ShapeError>
-    ensures ok { IfOk result (λ it. in_domain_text place items.now ≡ fine it) }
+    ensures ok { IfOk result (λ it. in_domain_text place items.now ≡ parsed it) }
     ensures err { IfErr result (λ e. ¬ (e ≡ ShapeError.Memory) → first (in_domain_text place items.now) ≡ Some e) }
 {
     let Some((head, rest)) = items.split_first() else {
@@ -97,7 +97,7 @@ fn in_domain_text(alloc: Global, place: Place, items: &[Sexp]) -> Result<DomainF
 
 #[tactic(auto, using(crate::proofs::Nodes::section_nodes))]
 fn domain_text(alloc: Global, tree: &Sexp) -> Result<DomainForm, ShapeError>
-    ensures ok { IfOk result (λ it. domain_text tree.now ≡ fine it) }
+    ensures ok { IfOk result (λ it. domain_text tree.now ≡ parsed it) }
     ensures err { IfErr result (λ e. ¬ (e ≡ ShapeError.Memory) → first (domain_text tree.now) ≡ Some e) }
 {
     match tree {
@@ -113,7 +113,7 @@ fn domain_text(alloc: Global, tree: &Sexp) -> Result<DomainForm, ShapeError>
 /// `Memory`.
 #[tactic(auto, using(crate::proofs::Steps::steps))]
 pub fn domain_form(alloc: Global, trees: &List<Sexp>) -> Result<DomainForm, ShapeError>
-    ensures form { IfOk result (λ it. domain trees.now ≡ fine it) }
+    ensures form { IfOk result (λ it. domain trees.now ≡ parsed it) }
     ensures fault { IfErr result (λ e. ¬ (e ≡ ShapeError.Memory) → first (domain trees.now) ≡ Some e) }
 {
     let Some((tree, others)) = trees.as_slice().split_first() else {

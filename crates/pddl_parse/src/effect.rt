@@ -1,5 +1,5 @@
 ghost use Rattle.std.specs.Prelude.{◌≡◌, Some, IfOk, IfErr, map};
-ghost use Rattle.pddl_lex.specs.Verdicts.{fine, first, all, followed};
+ghost use Rattle.pddl_lex.specs.Parses.{parsed, first, all, followed};
 ghost use Rattle.pddl_parse.specs.Shapes.{extra};
 ghost use Rattle.pddl_parse.specs.Effects.{in_call, call, is_undefined, new_value, changed, change_effect, deletion, for_all, conditional, effect, whole_effect};
 
@@ -17,7 +17,7 @@ use up_text::{Box, List, Place};
 
 #[tactic(auto, using(crate::proofs::Steps::steps))]
 fn in_call(alloc: Global, place: Place, items: &[Sexp]) -> Result<RawCall, ShapeError>
-    ensures ok { IfOk result (λ it. in_call place items.now ≡ fine it) }
+    ensures ok { IfOk result (λ it. in_call place items.now ≡ parsed it) }
     ensures err { IfErr result (λ e. ¬ (e ≡ ShapeError.Memory) → first (in_call place items.now) ≡ Some e) }
 {
     let Some((head, rest)) = items.split_first() else {
@@ -30,7 +30,7 @@ fn in_call(alloc: Global, place: Place, items: &[Sexp]) -> Result<RawCall, Shape
 
 #[tactic(auto, using(crate::proofs::Nodes::marks))]
 fn call(alloc: Global, tree: &Sexp) -> Result<RawCall, ShapeError>
-    ensures ok { IfOk result (λ it. call tree.now ≡ fine it) }
+    ensures ok { IfOk result (λ it. call tree.now ≡ parsed it) }
     ensures err { IfErr result (λ e. ¬ (e ≡ ShapeError.Memory) → first (call tree.now) ≡ Some e) }
 {
     match tree {
@@ -57,7 +57,7 @@ fn is_undefined(c: RawChange, tree: &Sexp) -> bool
 
 #[tactic(auto, using(crate::proofs::Steps::steps))]
 fn new_value(alloc: Global, c: RawChange, tree: &Sexp) -> Result<NewValue, ShapeError>
-    ensures ok { IfOk result (λ it. new_value c tree.now ≡ fine it) }
+    ensures ok { IfOk result (λ it. new_value c tree.now ≡ parsed it) }
     ensures err { IfErr result (λ e. ¬ (e ≡ ShapeError.Memory) → first (new_value c tree.now) ≡ Some e) }
 {
     if is_undefined(c, tree) {
@@ -82,7 +82,7 @@ fn change_effect(
     c: RawChange,
     rest: &[Sexp],
 ) -> Result<RawEffect, ShapeError>
-    ensures ok { IfOk result (λ it. change_effect place c rest.now ≡ fine it) }
+    ensures ok { IfOk result (λ it. change_effect place c rest.now ≡ parsed it) }
     ensures err { IfErr result (λ e. ¬ (e ≡ ShapeError.Memory) → first (change_effect place c rest.now) ≡ Some e) }
 {
     let Some((one, others)) = rest.split_first() else {
@@ -99,7 +99,7 @@ fn change_effect(
 
 #[tactic(auto, using(crate::proofs::Steps::steps))]
 fn deletion(alloc: Global, place: Place, rest: &[Sexp]) -> Result<RawEffect, ShapeError>
-    ensures ok { IfOk result (λ it. deletion place rest.now ≡ fine it) }
+    ensures ok { IfOk result (λ it. deletion place rest.now ≡ parsed it) }
     ensures err { IfErr result (λ e. ¬ (e ≡ ShapeError.Memory) → first (deletion place rest.now) ≡ Some e) }
 {
     let Some((tree, others)) = rest.split_first() else {
@@ -123,8 +123,8 @@ fn each_of(
     body: Box<RawEffect>,
     others: &[Sexp],
 ) -> Result<RawEffect, ShapeError>
-    ensures ok { IfOk result (λ it. followed (fine (RawEffect.Forall vars body)) (extra others.now) ≡ fine it) }
-    ensures err { IfErr result (λ e. ¬ (e ≡ ShapeError.Memory) → first (followed (fine (RawEffect.Forall vars body)) (extra others.now)) ≡ Some e) }
+    ensures ok { IfOk result (λ it. followed (parsed (RawEffect.Forall vars body)) (extra others.now) ≡ parsed it) }
+    ensures err { IfErr result (λ e. ¬ (e ≡ ShapeError.Memory) → first (followed (parsed (RawEffect.Forall vars body)) (extra others.now)) ≡ Some e) }
 {
     no_extra(others)?;
     Ok(RawEffect::Forall(vars, body))
@@ -136,8 +136,8 @@ fn where_true(
     body: Box<RawEffect>,
     others: &[Sexp],
 ) -> Result<RawEffect, ShapeError>
-    ensures ok { IfOk result (λ it. followed (fine (RawEffect.When condition body)) (extra others.now) ≡ fine it) }
-    ensures err { IfErr result (λ e. ¬ (e ≡ ShapeError.Memory) → first (followed (fine (RawEffect.When condition body)) (extra others.now)) ≡ Some e) }
+    ensures ok { IfOk result (λ it. followed (parsed (RawEffect.When condition body)) (extra others.now) ≡ parsed it) }
+    ensures err { IfErr result (λ e. ¬ (e ≡ ShapeError.Memory) → first (followed (parsed (RawEffect.When condition body)) (extra others.now)) ≡ Some e) }
 {
     no_extra(others)?;
     Ok(RawEffect::When(condition, body))
@@ -146,7 +146,7 @@ fn where_true(
 #[cycle(effect)]
 #[tactic(auto, using(crate::proofs::Steps::steps))]
 fn for_all(alloc: Global, place: Place, rest: &[Sexp]) -> Result<RawEffect, ShapeError>
-    ensures ok { IfOk result (λ it. for_all place rest.now (map effect rest.now) ≡ fine it) }
+    ensures ok { IfOk result (λ it. for_all place rest.now (map effect rest.now) ≡ parsed it) }
     ensures err { IfErr result (λ e. ¬ (e ≡ ShapeError.Memory) → first (for_all place rest.now (map effect rest.now)) ≡ Some e) }
 {
     let Some((one, others)) = rest.split_first() else {
@@ -163,7 +163,7 @@ fn for_all(alloc: Global, place: Place, rest: &[Sexp]) -> Result<RawEffect, Shap
 #[cycle(effect)]
 #[tactic(auto, using(crate::proofs::Steps::steps))]
 fn conditional(alloc: Global, place: Place, rest: &[Sexp]) -> Result<RawEffect, ShapeError>
-    ensures ok { IfOk result (λ it. conditional place rest.now (map effect rest.now) ≡ fine it) }
+    ensures ok { IfOk result (λ it. conditional place rest.now (map effect rest.now) ≡ parsed it) }
     ensures err { IfErr result (λ e. ¬ (e ≡ ShapeError.Memory) → first (conditional place rest.now (map effect rest.now)) ≡ Some e) }
 {
     let Some((one, others)) = rest.split_first() else {
@@ -180,7 +180,7 @@ fn conditional(alloc: Global, place: Place, rest: &[Sexp]) -> Result<RawEffect, 
 #[cycle(effect)]
 #[tactic(auto, using(crate::proofs::Steps::steps))]
 fn raw_effects(alloc: Global, items: &[Sexp]) -> Result<List<RawEffect>, ShapeError>
-    ensures ok { IfOk result (λ them. all (map effect items.now) ≡ fine them) }
+    ensures ok { IfOk result (λ them. all (map effect items.now) ≡ parsed them) }
     ensures err { IfErr result (λ e. ¬ (e ≡ ShapeError.Memory) → first (all (map effect items.now)) ≡ Some e) }
 {
     let mut made = List::new(alloc);
@@ -193,7 +193,7 @@ fn raw_effects(alloc: Global, items: &[Sexp]) -> Result<List<RawEffect>, ShapeEr
 #[cycle(effect)]
 #[tactic(auto, using(crate::proofs::Nodes::effect_nodes, crate::proofs::Steps::steps))]
 fn raw_effect(alloc: Global, tree: &Sexp) -> Result<RawEffect, ShapeError>
-    ensures ok { IfOk result (λ it. effect tree.now ≡ fine it) }
+    ensures ok { IfOk result (λ it. effect tree.now ≡ parsed it) }
     ensures err { IfErr result (λ e. ¬ (e ≡ ShapeError.Memory) → first (effect tree.now) ≡ Some e) }
 {
     let (place, items) = match tree {
@@ -216,7 +216,7 @@ fn raw_effect(alloc: Global, tree: &Sexp) -> Result<RawEffect, ShapeError>
 /// The effect of an action.
 #[tactic(auto, using(crate::proofs::Steps::steps))]
 pub fn whole_effect(alloc: Global, tree: &Sexp) -> Result<RawEffect, ShapeError>
-    ensures ok { IfOk result (λ it. whole_effect tree.now ≡ fine it) }
+    ensures ok { IfOk result (λ it. whole_effect tree.now ≡ parsed it) }
     ensures err { IfErr result (λ e. ¬ (e ≡ ShapeError.Memory) → first (whole_effect tree.now) ≡ Some e) }
 {
     if is_empty(tree) {

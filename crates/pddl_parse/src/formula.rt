@@ -1,5 +1,5 @@
 ghost use Rattle.std.specs.Prelude.{◌≡◌, Some, IfOk, IfErr, map};
-ghost use Rattle.pddl_lex.specs.Verdicts.{fine, first, all, followed};
+ghost use Rattle.pddl_lex.specs.Parses.{parsed, first, all, followed};
 ghost use Rattle.pddl_parse.specs.Formulas.{formula, negation, implication, quantified, quantify, comparison};
 ghost use Rattle.pddl_parse.specs.Shapes.{extra};
 
@@ -17,7 +17,7 @@ use up_text::{Box, List, Place};
 #[cycle(formula)]
 #[tactic(auto, using(crate::proofs::Nodes::nodes, crate::proofs::Steps::steps))]
 pub fn raw_formula(alloc: Global, tree: &Sexp) -> Result<RawFormula, ShapeError>
-    ensures ok { IfOk result (λ it. formula tree.now ≡ fine it) }
+    ensures ok { IfOk result (λ it. formula tree.now ≡ parsed it) }
     ensures err { IfErr result (λ e. ¬ (e ≡ ShapeError.Memory) → first (formula tree.now) ≡ Some e) }
 {
     let (place, items) = match tree {
@@ -45,7 +45,7 @@ pub fn raw_formula(alloc: Global, tree: &Sexp) -> Result<RawFormula, ShapeError>
 #[cycle(formula)]
 #[tactic(auto, using(crate::proofs::Steps::steps))]
 fn negation(alloc: Global, place: Place, rest: &[Sexp]) -> Result<RawFormula, ShapeError>
-    ensures ok { IfOk result (λ it. negation place rest.now (map formula rest.now) ≡ fine it) }
+    ensures ok { IfOk result (λ it. negation place rest.now (map formula rest.now) ≡ parsed it) }
     ensures err { IfErr result (λ e. ¬ (e ≡ ShapeError.Memory) → first (negation place rest.now (map formula rest.now)) ≡ Some e) }
 {
     let Some((tree, others)) = rest.split_first() else {
@@ -57,8 +57,8 @@ fn negation(alloc: Global, place: Place, rest: &[Sexp]) -> Result<RawFormula, Sh
 
 #[tactic(auto, using(crate::proofs::Steps::steps))]
 fn negated(alloc: Global, body: RawFormula, others: &[Sexp]) -> Result<RawFormula, ShapeError>
-    ensures ok { IfOk result (λ it. followed (fine (RawFormula.Not body)) (extra others.now) ≡ fine it) }
-    ensures err { IfErr result (λ e. ¬ (e ≡ ShapeError.Memory) → first (followed (fine (RawFormula.Not body)) (extra others.now)) ≡ Some e) }
+    ensures ok { IfOk result (λ it. followed (parsed (RawFormula.Not body)) (extra others.now) ≡ parsed it) }
+    ensures err { IfErr result (λ e. ¬ (e ≡ ShapeError.Memory) → first (followed (parsed (RawFormula.Not body)) (extra others.now)) ≡ Some e) }
 {
     no_extra(others)?;
     Ok(RawFormula::Not(Box::new(alloc, body)?))
@@ -67,7 +67,7 @@ fn negated(alloc: Global, body: RawFormula, others: &[Sexp]) -> Result<RawFormul
 #[cycle(formula)]
 #[tactic(auto, using(crate::proofs::Steps::steps))]
 fn implication(alloc: Global, place: Place, rest: &[Sexp]) -> Result<RawFormula, ShapeError>
-    ensures ok { IfOk result (λ it. implication place rest.now (map formula rest.now) ≡ fine it) }
+    ensures ok { IfOk result (λ it. implication place rest.now (map formula rest.now) ≡ parsed it) }
     ensures err { IfErr result (λ e. ¬ (e ≡ ShapeError.Memory) → first (implication place rest.now (map formula rest.now)) ≡ Some e) }
 {
     let Some((one, others)) = rest.split_first() else {
@@ -94,8 +94,8 @@ fn implied(
     b: Box<RawFormula>,
     others: &[Sexp],
 ) -> Result<RawFormula, ShapeError>
-    ensures ok { IfOk result (λ it. followed (fine (RawFormula.Imply a b)) (extra others.now) ≡ fine it) }
-    ensures err { IfErr result (λ e. ¬ (e ≡ ShapeError.Memory) → first (followed (fine (RawFormula.Imply a b)) (extra others.now)) ≡ Some e) }
+    ensures ok { IfOk result (λ it. followed (parsed (RawFormula.Imply a b)) (extra others.now) ≡ parsed it) }
+    ensures err { IfErr result (λ e. ¬ (e ≡ ShapeError.Memory) → first (followed (parsed (RawFormula.Imply a b)) (extra others.now)) ≡ Some e) }
 {
     no_extra(others)?;
     Ok(RawFormula::Imply(a, b))
@@ -109,7 +109,7 @@ fn quantified(
     quantifier: Quantifier,
     rest: &[Sexp],
 ) -> Result<RawFormula, ShapeError>
-    ensures ok { IfOk result (λ it. quantified place quantifier rest.now (map formula rest.now) ≡ fine it) }
+    ensures ok { IfOk result (λ it. quantified place quantifier rest.now (map formula rest.now) ≡ parsed it) }
     ensures err { IfErr result (λ e. ¬ (e ≡ ShapeError.Memory) → first (quantified place quantifier rest.now (map formula rest.now)) ≡ Some e) }
 {
     let Some((one, others)) = rest.split_first() else {
@@ -131,8 +131,8 @@ fn quantify(
     body: RawFormula,
     others: &[Sexp],
 ) -> Result<RawFormula, ShapeError>
-    ensures ok { IfOk result (λ it. followed (fine (quantify quantifier vars body)) (extra others.now) ≡ fine it) }
-    ensures err { IfErr result (λ e. ¬ (e ≡ ShapeError.Memory) → first (followed (fine (quantify quantifier vars body)) (extra others.now)) ≡ Some e) }
+    ensures ok { IfOk result (λ it. followed (parsed (quantify quantifier vars body)) (extra others.now) ≡ parsed it) }
+    ensures err { IfErr result (λ e. ¬ (e ≡ ShapeError.Memory) → first (followed (parsed (quantify quantifier vars body)) (extra others.now)) ≡ Some e) }
 {
     no_extra(others)?;
     let body = Box::new(alloc, body)?;
@@ -149,7 +149,7 @@ fn comparison(
     relation: Relation,
     rest: &[Sexp],
 ) -> Result<RawFormula, ShapeError>
-    ensures ok { IfOk result (λ it. comparison place relation rest.now ≡ fine it) }
+    ensures ok { IfOk result (λ it. comparison place relation rest.now ≡ parsed it) }
     ensures err { IfErr result (λ e. ¬ (e ≡ ShapeError.Memory) → first (comparison place relation rest.now) ≡ Some e) }
 {
     let Some((one, others)) = rest.split_first() else {
@@ -167,7 +167,7 @@ fn comparison(
 /// A condition in a box.
 #[tactic(auto, using(crate::proofs::Steps::steps))]
 pub fn boxed_formula(alloc: Global, tree: &Sexp) -> Result<Box<RawFormula>, ShapeError>
-    ensures ok { IfOk result (λ it. formula tree.now ≡ fine it) }
+    ensures ok { IfOk result (λ it. formula tree.now ≡ parsed it) }
     ensures err { IfErr result (λ e. ¬ (e ≡ ShapeError.Memory) → first (formula tree.now) ≡ Some e) }
 {
     boxed(alloc, raw_formula(alloc, tree)?)
@@ -176,7 +176,7 @@ pub fn boxed_formula(alloc: Global, tree: &Sexp) -> Result<Box<RawFormula>, Shap
 #[cycle(formula)]
 #[tactic(auto, using(crate::proofs::Steps::steps))]
 fn raw_formulas(alloc: Global, items: &[Sexp]) -> Result<List<RawFormula>, ShapeError>
-    ensures ok { IfOk result (λ them. all (map formula items.now) ≡ fine them) }
+    ensures ok { IfOk result (λ them. all (map formula items.now) ≡ parsed them) }
     ensures err { IfErr result (λ e. ¬ (e ≡ ShapeError.Memory) → first (all (map formula items.now)) ≡ Some e) }
 {
     let mut made = List::new(alloc);

@@ -1,5 +1,5 @@
 ghost use Rattle.std.specs.Prelude.{◌≡◌, Some, IfOk, IfErr};
-ghost use Rattle.pddl_lex.specs.Verdicts.{fine, first};
+ghost use Rattle.pddl_lex.specs.Parses.{parsed, first};
 ghost use Rattle.pddl_parse.specs.Shapes.{ident, variable, named, kind_ident, kind_variable};
 ghost use Rattle.up_text.specs.Names.{name_of};
 
@@ -10,7 +10,7 @@ use std::alloc::Global;
 use up_text::{Name, Place};
 
 fn named(alloc: Global, place: Place, fault: ShapeError, bytes: &[u8]) -> Result<Ident, ShapeError>
-    ensures ok { IfOk result (λ it. named place fault (name_of bytes.now) ≡ fine it) }
+    ensures ok { IfOk result (λ it. named place fault (name_of bytes.now) ≡ parsed it) }
     ensures err { IfErr result (λ e. ¬ (e ≡ ShapeError.Memory) → first (named place fault (name_of bytes.now)) ≡ Some e) }
 {
     match Name::of_bytes(alloc, bytes)? {
@@ -20,7 +20,7 @@ fn named(alloc: Global, place: Place, fault: ShapeError, bytes: &[u8]) -> Result
 }
 
 pub fn kind_ident(alloc: Global, place: Place, kind: &TokenKind) -> Result<Ident, ShapeError>
-    ensures ok { IfOk result (λ it. kind_ident place kind.now ≡ fine it) }
+    ensures ok { IfOk result (λ it. kind_ident place kind.now ≡ parsed it) }
     ensures err { IfErr result (λ e. ¬ (e ≡ ShapeError.Memory) → first (kind_ident place kind.now) ≡ Some e) }
 {
     match kind {
@@ -35,7 +35,7 @@ pub fn kind_ident(alloc: Global, place: Place, kind: &TokenKind) -> Result<Ident
 }
 
 pub fn kind_variable(alloc: Global, place: Place, kind: &TokenKind) -> Result<Ident, ShapeError>
-    ensures ok { IfOk result (λ it. kind_variable place kind.now ≡ fine it) }
+    ensures ok { IfOk result (λ it. kind_variable place kind.now ≡ parsed it) }
     ensures err { IfErr result (λ e. ¬ (e ≡ ShapeError.Memory) → first (kind_variable place kind.now) ≡ Some e) }
 {
     match kind {
@@ -53,7 +53,7 @@ pub fn kind_variable(alloc: Global, place: Place, kind: &TokenKind) -> Result<Id
 /// A name.
 #[tactic(auto, using(crate::proofs::Nodes::nodes))]
 pub fn ident(alloc: Global, tree: &Sexp) -> Result<Ident, ShapeError>
-    ensures ok { IfOk result (λ it. ident tree.now ≡ fine it) }
+    ensures ok { IfOk result (λ it. ident tree.now ≡ parsed it) }
     ensures err { IfErr result (λ e. ¬ (e ≡ ShapeError.Memory) → first (ident tree.now) ≡ Some e) }
 {
     match tree {
@@ -65,7 +65,7 @@ pub fn ident(alloc: Global, tree: &Sexp) -> Result<Ident, ShapeError>
 /// A variable.
 #[tactic(auto, using(crate::proofs::Nodes::nodes))]
 pub fn variable(alloc: Global, tree: &Sexp) -> Result<Ident, ShapeError>
-    ensures ok { IfOk result (λ it. variable tree.now ≡ fine it) }
+    ensures ok { IfOk result (λ it. variable tree.now ≡ parsed it) }
     ensures err { IfErr result (λ e. ¬ (e ≡ ShapeError.Memory) → first (variable tree.now) ≡ Some e) }
 {
     match tree {

@@ -1,5 +1,5 @@
 ghost use Rattle.std.specs.Prelude.{◌≡◌, [], Some, IfOk, IfErr};
-ghost use Rattle.pddl_lex.specs.Verdicts.{fine, first, over};
+ghost use Rattle.pddl_lex.specs.Parses.{parsed, first, over};
 ghost use Rattle.pddl_parse.specs.Sections.{problem_section, problem_sections};
 ghost use Rattle.pddl_parse.specs.Texts.{bare_problem, put_section, put_sections, complete, whole, lacks_section, in_problem_text, problem_text, problem};
 
@@ -78,7 +78,7 @@ fn put_next(
     before: &[Sexp],
     item: &Sexp,
 ) -> Result<ProblemParts, ShapeError>
-    ensures ok { IfOk result (λ it. over (put_section parts) (problem_section before.now item.now) ≡ fine it) }
+    ensures ok { IfOk result (λ it. over (put_section parts) (problem_section before.now item.now) ≡ parsed it) }
     ensures err { IfErr result (λ e. ¬ (e ≡ ShapeError.Memory) → first (problem_section before.now item.now) ≡ Some e) }
 {
     match problem_section(alloc, before, item) {
@@ -93,7 +93,7 @@ fn put_sections(
     start: ProblemParts,
     items: &[Sexp],
 ) -> Result<ProblemParts, ShapeError>
-    ensures ok { IfOk result (λ it. over (put_sections start) (problem_sections [] items.now) ≡ fine it) }
+    ensures ok { IfOk result (λ it. over (put_sections start) (problem_sections [] items.now) ≡ parsed it) }
     ensures err { IfErr result (λ e. ¬ (e ≡ ShapeError.Memory) → first (over (put_sections start) (problem_sections [] items.now)) ≡ Some e) }
 {
     let mut parts = start;
@@ -104,7 +104,7 @@ fn put_sections(
 }
 
 fn complete(place: Place, parts: ProblemParts) -> Result<ProblemForm, ShapeError>
-    ensures ok { IfOk result (λ it. complete place parts.domain parts.goal parts ≡ fine it) }
+    ensures ok { IfOk result (λ it. complete place parts.domain parts.goal parts ≡ parsed it) }
     ensures err { IfErr result (λ e. first (complete place parts.domain parts.goal parts) ≡ Some e) }
 {
     let ProblemParts {
@@ -141,7 +141,7 @@ fn lacks_section(items: &[Sexp]) -> bool
 
 #[tactic(auto, using(crate::proofs::Steps::steps, crate::proofs::Filling::first_whole))]
 fn in_problem_text(alloc: Global, place: Place, items: &[Sexp]) -> Result<ProblemForm, ShapeError>
-    ensures ok { IfOk result (λ it. in_problem_text place items.now ≡ fine it) }
+    ensures ok { IfOk result (λ it. in_problem_text place items.now ≡ parsed it) }
     ensures err { IfErr result (λ e. ¬ (e ≡ ShapeError.Memory) → first (in_problem_text place items.now) ≡ Some e) }
 {
     let Some((head, rest)) = items.split_first() else {
@@ -161,7 +161,7 @@ fn in_problem_text(alloc: Global, place: Place, items: &[Sexp]) -> Result<Proble
 
 #[tactic(auto, using(crate::proofs::Nodes::section_nodes))]
 fn problem_text(alloc: Global, tree: &Sexp) -> Result<ProblemForm, ShapeError>
-    ensures ok { IfOk result (λ it. problem_text tree.now ≡ fine it) }
+    ensures ok { IfOk result (λ it. problem_text tree.now ≡ parsed it) }
     ensures err { IfErr result (λ e. ¬ (e ≡ ShapeError.Memory) → first (problem_text tree.now) ≡ Some e) }
 {
     match tree {
@@ -175,7 +175,7 @@ fn problem_text(alloc: Global, tree: &Sexp) -> Result<ProblemForm, ShapeError>
 /// Errors: as those of `domain_form`.
 #[tactic(auto, using(crate::proofs::Steps::steps))]
 pub fn problem_form(alloc: Global, trees: &List<Sexp>) -> Result<ProblemForm, ShapeError>
-    ensures form { IfOk result (λ it. problem trees.now ≡ fine it) }
+    ensures form { IfOk result (λ it. problem trees.now ≡ parsed it) }
     ensures fault { IfErr result (λ e. ¬ (e ≡ ShapeError.Memory) → first (problem trees.now) ≡ Some e) }
 {
     let Some((tree, others)) = trees.as_slice().split_first() else {

@@ -1,5 +1,5 @@
 ghost use Rattle.std.specs.Prelude.{◌≡◌, [], ◌∷◌, Some, IfOk, IfErr};
-ghost use Rattle.pddl_lex.specs.Verdicts.{fine, first};
+ghost use Rattle.pddl_lex.specs.Parses.{parsed, first};
 ghost use Rattle.pddl_parse.specs.Shapes.{ident};
 ghost use Rattle.pddl_parse.specs.Actions.{condition};
 ghost use Rattle.pddl_parse.specs.Constraints.{whole_constraint};
@@ -65,8 +65,8 @@ fn requirement(tree: &Sexp) -> Result<(), ShapeError>
 }
 
 fn requirements(items: &[Sexp]) -> Result<(), ShapeError>
-    ensures ok { IfOk result (λ _. requirements DomainSection.Requirements items.now ≡ fine DomainSection.Requirements) }
-    ensures ok_of_problem { IfOk result (λ _. requirements ProblemSection.Requirements items.now ≡ fine ProblemSection.Requirements) }
+    ensures ok { IfOk result (λ _. requirements DomainSection.Requirements items.now ≡ parsed DomainSection.Requirements) }
+    ensures ok_of_problem { IfOk result (λ _. requirements ProblemSection.Requirements items.now ≡ parsed ProblemSection.Requirements) }
     ensures err { IfErr result (λ e. first (requirements DomainSection.Requirements items.now) ≡ Some e) }
     ensures err_of_problem { IfErr result (λ e. first (requirements ProblemSection.Requirements items.now) ≡ Some e) }
 {
@@ -80,7 +80,7 @@ fn requirements(items: &[Sexp]) -> Result<(), ShapeError>
 
 #[tactic(auto, using(crate::proofs::Steps::steps))]
 fn constraint_alone(alloc: Global, place: Place, rest: &[Sexp]) -> Result<RawConstraint, ShapeError>
-    ensures ok { IfOk result (λ it. alone place whole_constraint rest.now ≡ fine it) }
+    ensures ok { IfOk result (λ it. alone place whole_constraint rest.now ≡ parsed it) }
     ensures err { IfErr result (λ e. ¬ (e ≡ ShapeError.Memory) → first (alone place whole_constraint rest.now) ≡ Some e) }
 {
     let Some((tree, others)) = rest.split_first() else {
@@ -97,7 +97,7 @@ fn condition_alone(
     place: Place,
     rest: &[Sexp],
 ) -> Result<Box<RawFormula>, ShapeError>
-    ensures ok { IfOk result (λ it. alone place condition rest.now ≡ fine it) }
+    ensures ok { IfOk result (λ it. alone place condition rest.now ≡ parsed it) }
     ensures err { IfErr result (λ e. ¬ (e ≡ ShapeError.Memory) → first (alone place condition rest.now) ≡ Some e) }
 {
     let Some((tree, others)) = rest.split_first() else {
@@ -110,7 +110,7 @@ fn condition_alone(
 
 #[tactic(auto, using(crate::proofs::Steps::steps))]
 fn name_alone(alloc: Global, place: Place, rest: &[Sexp]) -> Result<Ident, ShapeError>
-    ensures ok { IfOk result (λ it. alone place ident rest.now ≡ fine it) }
+    ensures ok { IfOk result (λ it. alone place ident rest.now ≡ parsed it) }
     ensures err { IfErr result (λ e. ¬ (e ≡ ShapeError.Memory) → first (alone place ident rest.now) ≡ Some e) }
 {
     let Some((tree, others)) = rest.split_first() else {
@@ -183,7 +183,7 @@ fn domain_body(
     place: Place,
     rest: &[Sexp],
 ) -> Result<DomainSection, ShapeError>
-    ensures ok { IfOk result (λ it. domain_body key place rest.now ≡ fine it) }
+    ensures ok { IfOk result (λ it. domain_body key place rest.now ≡ parsed it) }
     ensures err { IfErr result (λ e. ¬ (e ≡ ShapeError.Memory) → first (domain_body key place rest.now) ≡ Some e) }
 {
     match key {
@@ -215,7 +215,7 @@ fn domain_known(
     place: Place,
     rest: &[Sexp],
 ) -> Result<DomainSection, ShapeError>
-    ensures ok { IfOk result (λ it. domain_known (domain_key word.now) word.now before.now place rest.now ≡ fine it) }
+    ensures ok { IfOk result (λ it. domain_known (domain_key word.now) word.now before.now place rest.now ≡ parsed it) }
     ensures err { IfErr result (λ e. ¬ (e ≡ ShapeError.Memory) → first (domain_known (domain_key word.now) word.now before.now place rest.now) ≡ Some e) }
 {
     match domain_key(word) {
@@ -237,7 +237,7 @@ fn in_domain_section(
     place: Place,
     items: &[Sexp],
 ) -> Result<DomainSection, ShapeError>
-    ensures ok { IfOk result (λ it. in_domain_section before.now place items.now ≡ fine it) }
+    ensures ok { IfOk result (λ it. in_domain_section before.now place items.now ≡ parsed it) }
     ensures err { IfErr result (λ e. ¬ (e ≡ ShapeError.Memory) → first (in_domain_section before.now place items.now) ≡ Some e) }
 {
     let Some((head, rest)) = items.split_first() else {
@@ -259,7 +259,7 @@ pub fn domain_section(
     before: &[Sexp],
     tree: &Sexp,
 ) -> Result<DomainSection, ShapeError>
-    ensures ok { IfOk result (λ it. domain_section before.now tree.now ≡ fine it) }
+    ensures ok { IfOk result (λ it. domain_section before.now tree.now ≡ parsed it) }
     ensures err { IfErr result (λ e. ¬ (e ≡ ShapeError.Memory) → first (domain_section before.now tree.now) ≡ Some e) }
 {
     match tree {
@@ -321,7 +321,7 @@ fn problem_body(
     place: Place,
     rest: &[Sexp],
 ) -> Result<ProblemSection, ShapeError>
-    ensures ok { IfOk result (λ it. problem_body key place rest.now ≡ fine it) }
+    ensures ok { IfOk result (λ it. problem_body key place rest.now ≡ parsed it) }
     ensures err { IfErr result (λ e. ¬ (e ≡ ShapeError.Memory) → first (problem_body key place rest.now) ≡ Some e) }
 {
     match key {
@@ -353,7 +353,7 @@ fn problem_known(
     place: Place,
     rest: &[Sexp],
 ) -> Result<ProblemSection, ShapeError>
-    ensures ok { IfOk result (λ it. problem_known (problem_key word.now) word.now before.now place rest.now ≡ fine it) }
+    ensures ok { IfOk result (λ it. problem_known (problem_key word.now) word.now before.now place rest.now ≡ parsed it) }
     ensures err { IfErr result (λ e. ¬ (e ≡ ShapeError.Memory) → first (problem_known (problem_key word.now) word.now before.now place rest.now) ≡ Some e) }
 {
     match problem_key(word) {
@@ -375,7 +375,7 @@ fn in_problem_section(
     place: Place,
     items: &[Sexp],
 ) -> Result<ProblemSection, ShapeError>
-    ensures ok { IfOk result (λ it. in_problem_section before.now place items.now ≡ fine it) }
+    ensures ok { IfOk result (λ it. in_problem_section before.now place items.now ≡ parsed it) }
     ensures err { IfErr result (λ e. ¬ (e ≡ ShapeError.Memory) → first (in_problem_section before.now place items.now) ≡ Some e) }
 {
     let Some((head, rest)) = items.split_first() else {
@@ -397,7 +397,7 @@ pub fn problem_section(
     before: &[Sexp],
     tree: &Sexp,
 ) -> Result<ProblemSection, ShapeError>
-    ensures ok { IfOk result (λ it. problem_section before.now tree.now ≡ fine it) }
+    ensures ok { IfOk result (λ it. problem_section before.now tree.now ≡ parsed it) }
     ensures err { IfErr result (λ e. ¬ (e ≡ ShapeError.Memory) → first (problem_section before.now tree.now) ≡ Some e) }
 {
     match tree {

@@ -1,5 +1,5 @@
 ghost use Rattle.std.specs.Prelude.{◌≡◌, Some, IfOk, IfErr, map};
-ghost use Rattle.pddl_lex.specs.Verdicts.{fine, first, all};
+ghost use Rattle.pddl_lex.specs.Parses.{parsed, first, all};
 ghost use Rattle.pddl_parse.specs.Shapes.{ident};
 ghost use Rattle.pddl_parse.specs.Starts.{in_ground, ground, kind_value, initial_value, absent, assigned, in_init, initial, minimizes, metric};
 
@@ -15,7 +15,7 @@ use up_text::{List, Place};
 
 #[tactic(auto, using(crate::proofs::Steps::steps))]
 fn idents(alloc: Global, items: &[Sexp]) -> Result<List<Ident>, ShapeError>
-    ensures ok { IfOk result (λ them. all (map ident items.now) ≡ fine them) }
+    ensures ok { IfOk result (λ them. all (map ident items.now) ≡ parsed them) }
     ensures err { IfErr result (λ e. ¬ (e ≡ ShapeError.Memory) → first (all (map ident items.now)) ≡ Some e) }
 {
     let mut made = List::new(alloc);
@@ -27,7 +27,7 @@ fn idents(alloc: Global, items: &[Sexp]) -> Result<List<Ident>, ShapeError>
 
 #[tactic(auto, using(crate::proofs::Steps::steps))]
 fn in_ground(alloc: Global, place: Place, items: &[Sexp]) -> Result<RawGround, ShapeError>
-    ensures ok { IfOk result (λ it. in_ground place items.now ≡ fine it) }
+    ensures ok { IfOk result (λ it. in_ground place items.now ≡ parsed it) }
     ensures err { IfErr result (λ e. ¬ (e ≡ ShapeError.Memory) → first (in_ground place items.now) ≡ Some e) }
 {
     let Some((head, rest)) = items.split_first() else {
@@ -40,7 +40,7 @@ fn in_ground(alloc: Global, place: Place, items: &[Sexp]) -> Result<RawGround, S
 
 #[tactic(auto, using(crate::proofs::Nodes::marks))]
 fn ground(alloc: Global, tree: &Sexp) -> Result<RawGround, ShapeError>
-    ensures ok { IfOk result (λ it. ground tree.now ≡ fine it) }
+    ensures ok { IfOk result (λ it. ground tree.now ≡ parsed it) }
     ensures err { IfErr result (λ e. ¬ (e ≡ ShapeError.Memory) → first (ground tree.now) ≡ Some e) }
 {
     match tree {
@@ -51,7 +51,7 @@ fn ground(alloc: Global, tree: &Sexp) -> Result<RawGround, ShapeError>
 
 #[tactic(auto, using(crate::proofs::Steps::steps))]
 fn kind_value(alloc: Global, place: Place, kind: &TokenKind) -> Result<RawValue, ShapeError>
-    ensures ok { IfOk result (λ it. kind_value place kind.now ≡ fine it) }
+    ensures ok { IfOk result (λ it. kind_value place kind.now ≡ parsed it) }
     ensures err { IfErr result (λ e. ¬ (e ≡ ShapeError.Memory) → first (kind_value place kind.now) ≡ Some e) }
 {
     match kind {
@@ -62,7 +62,7 @@ fn kind_value(alloc: Global, place: Place, kind: &TokenKind) -> Result<RawValue,
 
 #[tactic(auto, using(crate::proofs::Nodes::start_nodes))]
 fn initial_value(alloc: Global, tree: &Sexp) -> Result<RawValue, ShapeError>
-    ensures ok { IfOk result (λ it. initial_value tree.now ≡ fine it) }
+    ensures ok { IfOk result (λ it. initial_value tree.now ≡ parsed it) }
     ensures err { IfErr result (λ e. ¬ (e ≡ ShapeError.Memory) → first (initial_value tree.now) ≡ Some e) }
 {
     match tree {
@@ -73,7 +73,7 @@ fn initial_value(alloc: Global, tree: &Sexp) -> Result<RawValue, ShapeError>
 
 #[tactic(auto, using(crate::proofs::Steps::steps))]
 fn absent(alloc: Global, place: Place, rest: &[Sexp]) -> Result<RawInit, ShapeError>
-    ensures ok { IfOk result (λ it. absent place rest.now ≡ fine it) }
+    ensures ok { IfOk result (λ it. absent place rest.now ≡ parsed it) }
     ensures err { IfErr result (λ e. ¬ (e ≡ ShapeError.Memory) → first (absent place rest.now) ≡ Some e) }
 {
     let Some((tree, others)) = rest.split_first() else {
@@ -86,7 +86,7 @@ fn absent(alloc: Global, place: Place, rest: &[Sexp]) -> Result<RawInit, ShapeEr
 
 #[tactic(auto, using(crate::proofs::Steps::steps))]
 fn assigned(alloc: Global, place: Place, rest: &[Sexp]) -> Result<RawInit, ShapeError>
-    ensures ok { IfOk result (λ it. assigned place rest.now ≡ fine it) }
+    ensures ok { IfOk result (λ it. assigned place rest.now ≡ parsed it) }
     ensures err { IfErr result (λ e. ¬ (e ≡ ShapeError.Memory) → first (assigned place rest.now) ≡ Some e) }
 {
     let Some((one, others)) = rest.split_first() else {
@@ -103,7 +103,7 @@ fn assigned(alloc: Global, place: Place, rest: &[Sexp]) -> Result<RawInit, Shape
 
 #[tactic(auto, using(crate::proofs::Steps::steps))]
 fn in_init(alloc: Global, place: Place, items: &[Sexp]) -> Result<RawInit, ShapeError>
-    ensures ok { IfOk result (λ it. in_init place items.now ≡ fine it) }
+    ensures ok { IfOk result (λ it. in_init place items.now ≡ parsed it) }
     ensures err { IfErr result (λ e. ¬ (e ≡ ShapeError.Memory) → first (in_init place items.now) ≡ Some e) }
 {
     let Some((head, rest)) = items.split_first() else {
@@ -118,7 +118,7 @@ fn in_init(alloc: Global, place: Place, items: &[Sexp]) -> Result<RawInit, Shape
 
 #[tactic(auto, using(crate::proofs::Nodes::marks))]
 fn initial(alloc: Global, tree: &Sexp) -> Result<RawInit, ShapeError>
-    ensures ok { IfOk result (λ it. initial tree.now ≡ fine it) }
+    ensures ok { IfOk result (λ it. initial tree.now ≡ parsed it) }
     ensures err { IfErr result (λ e. ¬ (e ≡ ShapeError.Memory) → first (initial tree.now) ≡ Some e) }
 {
     match tree {
@@ -130,7 +130,7 @@ fn initial(alloc: Global, tree: &Sexp) -> Result<RawInit, ShapeError>
 /// The members of an initial state.
 #[tactic(auto, using(crate::proofs::Steps::steps))]
 pub fn start(alloc: Global, items: &[Sexp]) -> Result<List<RawInit>, ShapeError>
-    ensures ok { IfOk result (λ them. all (map initial items.now) ≡ fine them) }
+    ensures ok { IfOk result (λ them. all (map initial items.now) ≡ parsed them) }
     ensures err { IfErr result (λ e. ¬ (e ≡ ShapeError.Memory) → first (all (map initial items.now)) ≡ Some e) }
 {
     let mut made = List::new(alloc);
@@ -141,7 +141,7 @@ pub fn start(alloc: Global, items: &[Sexp]) -> Result<List<RawInit>, ShapeError>
 }
 
 fn minimizes(tree: &Sexp) -> Result<bool, ShapeError>
-    ensures ok { IfOk result (λ it. minimizes tree.now ≡ fine it) }
+    ensures ok { IfOk result (λ it. minimizes tree.now ≡ parsed it) }
     ensures err { IfErr result (λ e. first (minimizes tree.now) ≡ Some e) }
 {
     if is_word(b"minimize".as_slice(), tree) {
@@ -156,7 +156,7 @@ fn minimizes(tree: &Sexp) -> Result<bool, ShapeError>
 /// What a metric's section at this place says.
 #[tactic(auto, using(crate::proofs::Steps::steps))]
 pub fn metric(alloc: Global, place: Place, rest: &[Sexp]) -> Result<RawMetric, ShapeError>
-    ensures ok { IfOk result (λ it. metric place rest.now ≡ fine it) }
+    ensures ok { IfOk result (λ it. metric place rest.now ≡ parsed it) }
     ensures err { IfErr result (λ e. ¬ (e ≡ ShapeError.Memory) → first (metric place rest.now) ≡ Some e) }
 {
     let Some((one, others)) = rest.split_first() else {

@@ -1,7 +1,7 @@
 ghost use Rattle.std.specs.Prelude.{◌≡◌, List as Sequence, [], ◌∷◌, true, false, Some, IfOk, IfErr, map};
 ghost use Rattle.pddl_lex.specs.declared.tree.Sexp.{Sexp};
 ghost use Rattle.up_text.specs.declared.place.Place.{Place};
-ghost use Rattle.pddl_lex.specs.Verdicts.{fine, first, all, before};
+ghost use Rattle.pddl_lex.specs.Parses.{parsed, first, all, before};
 ghost use Rattle.pddl_parse.specs.Symbols.{GoOn, in_symbol, symbol, predicates, gives, declared, declared_step, minus_after, one_more, last_functions, functions};
 
 use crate::bracket::is_word;
@@ -15,7 +15,7 @@ use up_text::{List, Place};
 
 #[tactic(auto, using(crate::proofs::Steps::steps))]
 fn in_symbol(alloc: Global, place: Place, items: &[Sexp]) -> Result<RawSymbol, ShapeError>
-    ensures ok { IfOk result (λ it. in_symbol place items.now ≡ fine it) }
+    ensures ok { IfOk result (λ it. in_symbol place items.now ≡ parsed it) }
     ensures err { IfErr result (λ e. ¬ (e ≡ ShapeError.Memory) → first (in_symbol place items.now) ≡ Some e) }
 {
     let Some((head, rest)) = items.split_first() else {
@@ -31,7 +31,7 @@ fn in_symbol(alloc: Global, place: Place, items: &[Sexp]) -> Result<RawSymbol, S
 
 #[tactic(auto, using(crate::proofs::Nodes::marks))]
 fn symbol(alloc: Global, tree: &Sexp) -> Result<RawSymbol, ShapeError>
-    ensures ok { IfOk result (λ it. symbol tree.now ≡ fine it) }
+    ensures ok { IfOk result (λ it. symbol tree.now ≡ parsed it) }
     ensures err { IfErr result (λ e. ¬ (e ≡ ShapeError.Memory) → first (symbol tree.now) ≡ Some e) }
 {
     match tree {
@@ -43,7 +43,7 @@ fn symbol(alloc: Global, tree: &Sexp) -> Result<RawSymbol, ShapeError>
 /// The predicates of a section.
 #[tactic(auto, using(crate::proofs::Steps::steps))]
 pub fn predicates(alloc: Global, items: &[Sexp]) -> Result<List<RawSymbol>, ShapeError>
-    ensures ok { IfOk result (λ them. predicates items.now ≡ fine them) }
+    ensures ok { IfOk result (λ them. predicates items.now ≡ parsed them) }
     ensures err { IfErr result (λ e. ¬ (e ≡ ShapeError.Memory) → first (predicates items.now) ≡ Some e) }
 {
     let mut made = List::new(alloc);
@@ -55,7 +55,7 @@ pub fn predicates(alloc: Global, items: &[Sexp]) -> Result<List<RawSymbol>, Shap
 
 #[tactic(auto, using(crate::proofs::Steps::steps))]
 fn gives(alloc: Global, tree: &Sexp) -> Result<RawGives, ShapeError>
-    ensures ok { IfOk result (λ it. gives tree.now ≡ fine it) }
+    ensures ok { IfOk result (λ it. gives tree.now ≡ parsed it) }
     ensures err { IfErr result (λ e. ¬ (e ≡ ShapeError.Memory) → first (gives tree.now) ≡ Some e) }
 {
     if is_word(b"number".as_slice(), tree) {
@@ -144,7 +144,7 @@ impl Declaring {
     }
 
     fn end(self, place: Place) -> Result<List<RawFunctions>, ShapeError>
-        ensures ok { IfOk result (λ them. before self.groups (last_functions place self.functions self.due) ≡ fine them) }
+        ensures ok { IfOk result (λ them. before self.groups (last_functions place self.functions self.due) ≡ parsed them) }
         ensures err { IfErr result (λ e. ¬ (e ≡ ShapeError.Memory) → first (last_functions place self.functions self.due) ≡ Some e) }
     {
         let Declaring {
@@ -168,7 +168,7 @@ impl Declaring {
 
 #[tactic(auto, using(crate::proofs::Steps::steps))]
 fn declared(alloc: Global, place: Place, items: &[Sexp]) -> Result<List<RawFunctions>, ShapeError>
-    ensures ok { IfOk result (λ them. declared place items.now [] false ≡ fine them) }
+    ensures ok { IfOk result (λ them. declared place items.now [] false ≡ parsed them) }
     ensures err { IfErr result (λ e. ¬ (e ≡ ShapeError.Memory) → first (declared place items.now [] false) ≡ Some e) }
 {
     let mut declaring = Declaring {
@@ -191,7 +191,7 @@ pub fn functions(
     place: Place,
     items: &[Sexp],
 ) -> Result<List<RawFunctions>, ShapeError>
-    ensures ok { IfOk result (λ them. functions place items.now ≡ fine them) }
+    ensures ok { IfOk result (λ them. functions place items.now ≡ parsed them) }
     ensures err { IfErr result (λ e. ¬ (e ≡ ShapeError.Memory) → first (functions place items.now) ≡ Some e) }
 {
     if ends_in_minus(items) {

@@ -1,5 +1,5 @@
 ghost use Rattle.std.specs.Prelude.{◌≡◌, ◌≤◌, nat_lt, [], ◌∷◌, Some, IfOk, IfErr, map, length};
-ghost use Rattle.pddl_lex.specs.Verdicts.{fine, first, all};
+ghost use Rattle.pddl_lex.specs.Parses.{parsed, first, all};
 ghost use Rattle.pddl_parse.specs.Shapes.{lacking};
 ghost use Rattle.pddl_parse.specs.Terms.{term, kind_term, kind_operator, sign_operator, operator_of, least, most};
 
@@ -69,7 +69,7 @@ fn enough(op: Operator, place: Place, rest: &[Sexp]) -> Result<(), ShapeError>
 
 #[tactic(auto, using(crate::proofs::Steps::steps))]
 fn kind_term(alloc: Global, place: Place, kind: &TokenKind) -> Result<RawTerm, ShapeError>
-    ensures ok { IfOk result (λ it. kind_term place kind.now ≡ fine it) }
+    ensures ok { IfOk result (λ it. kind_term place kind.now ≡ parsed it) }
     ensures err { IfErr result (λ e. ¬ (e ≡ ShapeError.Memory) → first (kind_term place kind.now) ≡ Some e) }
 {
     match kind {
@@ -84,7 +84,7 @@ fn kind_term(alloc: Global, place: Place, kind: &TokenKind) -> Result<RawTerm, S
 #[cycle(term)]
 #[tactic(auto, using(crate::proofs::Nodes::nodes, crate::proofs::Steps::steps))]
 pub fn raw_term(alloc: Global, tree: &Sexp) -> Result<RawTerm, ShapeError>
-    ensures ok { IfOk result (λ it. term tree.now ≡ fine it) }
+    ensures ok { IfOk result (λ it. term tree.now ≡ parsed it) }
     ensures err { IfErr result (λ e. ¬ (e ≡ ShapeError.Memory) → first (term tree.now) ≡ Some e) }
 {
     let (place, items) = match tree {
@@ -113,7 +113,7 @@ pub fn raw_term(alloc: Global, tree: &Sexp) -> Result<RawTerm, ShapeError>
 #[cycle(term)]
 #[tactic(auto, using(crate::proofs::Steps::steps))]
 pub fn raw_terms(alloc: Global, items: &[Sexp]) -> Result<List<RawTerm>, ShapeError>
-    ensures ok { IfOk result (λ them. all (map term items.now) ≡ fine them) }
+    ensures ok { IfOk result (λ them. all (map term items.now) ≡ parsed them) }
     ensures err { IfErr result (λ e. ¬ (e ≡ ShapeError.Memory) → first (all (map term items.now)) ≡ Some e) }
 {
     let mut made = List::new(alloc);

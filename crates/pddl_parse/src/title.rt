@@ -1,5 +1,5 @@
 ghost use Rattle.std.specs.Prelude.{◌≡◌, [], ◌∷◌, Some, IfOk, IfErr};
-ghost use Rattle.pddl_lex.specs.Verdicts.{fine, first};
+ghost use Rattle.pddl_lex.specs.Parses.{parsed, first};
 ghost use Rattle.pddl_parse.specs.Texts.{unlike, in_title, title};
 
 use crate::bracket::is_word;
@@ -24,7 +24,7 @@ pub fn expect_word(word: &[u8], tree: &Sexp) -> Result<(), ShapeError>
 
 #[tactic(auto, using(crate::proofs::Steps::steps))]
 fn in_title(alloc: Global, word: &[u8], place: Place, items: &[Sexp]) -> Result<Ident, ShapeError>
-    ensures ok { IfOk result (λ it. in_title word.now place items.now ≡ fine it) }
+    ensures ok { IfOk result (λ it. in_title word.now place items.now ≡ parsed it) }
     ensures err { IfErr result (λ e. ¬ (e ≡ ShapeError.Memory) → first (in_title word.now place items.now) ≡ Some e) }
 {
     let Some((head, rest)) = items.split_first() else {
@@ -42,7 +42,7 @@ fn in_title(alloc: Global, word: &[u8], place: Place, items: &[Sexp]) -> Result<
 /// The name that a bracket with this word gives a text.
 #[tactic(auto, using(crate::proofs::Nodes::section_nodes))]
 pub fn title(alloc: Global, word: &[u8], tree: &Sexp) -> Result<Ident, ShapeError>
-    ensures ok { IfOk result (λ it. title word.now tree.now ≡ fine it) }
+    ensures ok { IfOk result (λ it. title word.now tree.now ≡ parsed it) }
     ensures err { IfErr result (λ e. ¬ (e ≡ ShapeError.Memory) → first (title word.now tree.now) ≡ Some e) }
 {
     match tree {

@@ -1,7 +1,7 @@
 ghost use Rattle.std.specs.Prelude.{◌≡◌, List as Sequence, [], ◌∷◌, true, false, Some, IfOk, IfErr};
 ghost use Rattle.pddl_lex.specs.declared.tree.Sexp.{Sexp};
 ghost use Rattle.up_text.specs.declared.place.Place.{Place};
-ghost use Rattle.pddl_lex.specs.Verdicts.{fine, first, before};
+ghost use Rattle.pddl_lex.specs.Parses.{parsed, first, before};
 ghost use Rattle.pddl_parse.specs.TypedLists.{Go, listed, typed_list, variable_list, is_minus, ends_in_minus, typed, typed_step, on_minus, on_name, variables, last_group};
 
 use crate::ident::{ident, variable};
@@ -19,7 +19,7 @@ pub enum Item {
 }
 
 fn listed(alloc: Global, what: Item, tree: &Sexp) -> Result<Ident, ShapeError>
-    ensures ok { IfOk result (λ it. listed what tree.now ≡ fine it) }
+    ensures ok { IfOk result (λ it. listed what tree.now ≡ parsed it) }
     ensures err { IfErr result (λ e. ¬ (e ≡ ShapeError.Memory) → first (listed what tree.now) ≡ Some e) }
 {
     match what {
@@ -136,7 +136,7 @@ impl Typing {
     }
 
     fn end(self, place: Place) -> Result<List<RawGroup>, ShapeError>
-        ensures ok { IfOk result (λ them. before self.groups (last_group place self.names self.due) ≡ fine them) }
+        ensures ok { IfOk result (λ them. before self.groups (last_group place self.names self.due) ≡ parsed them) }
         ensures err { IfErr result (λ e. ¬ (e ≡ ShapeError.Memory) → first (last_group place self.names self.due) ≡ Some e) }
     {
         let Typing {
@@ -162,7 +162,7 @@ pub fn typed(
     place: Place,
     items: &[Sexp],
 ) -> Result<List<RawGroup>, ShapeError>
-    ensures ok { IfOk result (λ them. typed what place items.now [] false ≡ fine them) }
+    ensures ok { IfOk result (λ them. typed what place items.now [] false ≡ parsed them) }
     ensures err { IfErr result (λ e. ¬ (e ≡ ShapeError.Memory) → first (typed what place items.now [] false) ≡ Some e) }
 {
     let mut typing = Typing {
@@ -186,7 +186,7 @@ pub fn typed_list(
     place: Place,
     items: &[Sexp],
 ) -> Result<List<RawGroup>, ShapeError>
-    ensures ok { IfOk result (λ them. typed_list what place items.now ≡ fine them) }
+    ensures ok { IfOk result (λ them. typed_list what place items.now ≡ parsed them) }
     ensures err { IfErr result (λ e. ¬ (e ≡ ShapeError.Memory) → first (typed_list what place items.now) ≡ Some e) }
 {
     if ends_in_minus(items) {
@@ -197,7 +197,7 @@ pub fn typed_list(
 
 #[tactic(auto, using(crate::proofs::Steps::steps))]
 fn variable_list(alloc: Global, place: Place, items: &[Sexp]) -> Result<List<RawGroup>, ShapeError>
-    ensures ok { IfOk result (λ them. variable_list place items.now ≡ fine them) }
+    ensures ok { IfOk result (λ them. variable_list place items.now ≡ parsed them) }
     ensures err { IfErr result (λ e. ¬ (e ≡ ShapeError.Memory) → first (variable_list place items.now) ≡ Some e) }
 {
     if ends_in_minus(items) {
@@ -209,7 +209,7 @@ fn variable_list(alloc: Global, place: Place, items: &[Sexp]) -> Result<List<Raw
 /// A list of variables with types.
 #[tactic(auto, using(crate::proofs::Nodes::nodes, crate::proofs::Steps::steps))]
 pub fn variables(alloc: Global, tree: &Sexp) -> Result<List<RawGroup>, ShapeError>
-    ensures ok { IfOk result (λ them. variables tree.now ≡ fine them) }
+    ensures ok { IfOk result (λ them. variables tree.now ≡ parsed them) }
     ensures err { IfErr result (λ e. ¬ (e ≡ ShapeError.Memory) → first (variables tree.now) ≡ Some e) }
 {
     match tree {

@@ -11,7 +11,7 @@ use Rattle.up_tree.specs.declared.action.Action.{Action}
 use Rattle.up_tree.specs.declared.problem.Rule.{Rule}
 use Rattle.up_tree.specs.declared.problem.Rule.TheVariants.{Always, Sometime, AtMostOnce, SometimeAfter, SometimeBefore}
 use Rattle.up_tree.specs.declared.problem.Constraint.{Constraint}
-use Rattle.up_tree.specs.Simplify.{is_always}
+use Rattle.up_tree.specs.Simplify.{is_true_formula}
 use Rattle.up_line.specs.Spaced.{spaced}
 use Rattle.pddl_write.specs.Phrases.{variables_text, applied, term_text, expr_text, formula_text}
 
@@ -36,7 +36,7 @@ for_each typed (v ∷ vars) text = codes "(forall (" ++ variables_text typed (v 
 
 -- inside a `when` where the condition isn't `true`
 abbrev pub under : Bool → Formula → List ℕ → List ℕ
-under typed f text = if is_always f then text else codes "(when " ++ formula_text typed f ++ codes " " ++ text ++ codes ")"
+under typed f text = if is_true_formula f then text else codes "(when " ++ formula_text typed f ++ codes " " ++ text ++ codes ")"
 
 abbrev pub effect_row_text : Bool → Row → List ℕ
 effect_row_text typed r = for_each typed r.vars (under typed r.when (effect_text r.effect))

@@ -3,7 +3,7 @@ use Rattle.std.proofs.Common.{◌≡◌, ℕ, ◌+◌, ◌<◌, ◌≤◌, lengt
 use Rattle.std.proofs.lemmas.List.{drop_more, drop_all, append-nil}
 use Rattle.up_text.specs.declared.name.Name.{Name}
 use Rattle.up_text.specs.Fresh.{with_name}
-use Rattle.pddl_lex.specs.Verdicts.{fine, first, before}
+use Rattle.pddl_lex.specs.Parses.{parsed, first, before}
 use Rattle.pddl_parse.specs.declared.raw.RawAction.{RawAction}
 use Rattle.up_tree.specs.declared.action.Action.{Action}
 use Rattle.up_phrase.specs.declared.fault.Fault.{Fault}
@@ -17,7 +17,7 @@ module _ (names : Declarations) (raws : List RawAction) (index : ℕ) (declared 
     (so_far : actions names [] raws ≡ before made (actions names declared (drop index raws))) where
   -- one more action has been checked
   pub actions_on : (more : List Name) (grown : List Action) (a : Action) → second declared raw.name ≡ [] → more ≡ with_name declared raw.name.name
-      → action names raw ≡ fine a → grown ≡ made ++ a ∷ []
+      → action names raw ≡ parsed a → grown ≡ made ++ a ∷ []
       → actions names [] raws ≡ before grown (actions names more (drop (index + 1) raws))
   actions_on more grown a first_of named e pushed =
       so_far ∙ rw (drop_more raws index raw within, ← is, first_of, e, named, pushed)
@@ -35,7 +35,7 @@ module _ (names : Declarations) (raws : List RawAction) (index : ℕ) (declared 
 
 -- all actions have been checked
 pub actions_all : (names : Declarations) (raws : List RawAction) (index : ℕ) (declared : List Name) (made : List Action) → length raws ≤ index
-    → actions names [] raws ≡ before made (actions names declared (drop index raws)) → actions names [] raws ≡ fine made
-actions_all names raws index declared made done so_far = so_far ∙ rw (drop_all index raws done) (ap fine (append-nil made))
+    → actions names [] raws ≡ before made (actions names declared (drop index raws)) → actions names [] raws ≡ parsed made
+actions_all names raws index declared made done so_far = so_far ∙ rw (drop_all index raws done) (ap parsed (append-nil made))
 
 pub ruleset declaring = (actions_on, actions_twice, actions_off, actions_all)

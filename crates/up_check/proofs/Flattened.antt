@@ -1,7 +1,7 @@
 -- What the definitions say of a raw constraint as code takes it apart, and of members that are listed one after the other.
 use Rattle.std.proofs.Common.{◌≡◌, ℕ, ◌+◌, ◌<◌, ◌≤◌, length, List, ◌∷◌, ◌++◌, map, drop, get_or, Some, refl, ap, sym, ◌∙◌, append_assoc}
 use Rattle.std.proofs.lemmas.List.{drop_more, drop_all, append-nil}
-use Rattle.pddl_lex.specs.Verdicts.{fine, faulty, first, over_two, before}
+use Rattle.pddl_lex.specs.Parses.{parsed, rejected, first, over_two, before}
 use Rattle.pddl_parse.specs.declared.raw.RawGroup.{RawGroup}
 use Rattle.pddl_parse.specs.declared.raw.RawFormula.{RawFormula}
 use Rattle.pddl_parse.specs.declared.raw.RawConstraint.{RawConstraint, Row_of-RawConstraint, end_of-RawConstraint, more_of-RawConstraint, items-the_row-RawConstraint, items_hidden-the_row-RawConstraint-0}
@@ -54,17 +54,17 @@ module _ (names : Declarations) (vars : Variables) where
   constraints-SometimeBefore f g = refl
 
 -- a first part that is listed, and what comes after it
-before_joined : {A : Type 0} (made more : List A) (v w : Checked (List A)) → before made v ≡ fine more
+before_joined : {A : Type 0} (made more : List A) (v w : Checked (List A)) → before made v ≡ parsed more
     → before made (over_two (λ xs ys. xs ++ ys) v w) ≡ before more w
-before_joined made more (fine xs) (fine ys) e =
+before_joined made more (parsed xs) (parsed ys) e =
     let same : made ++ xs ≡ more = cc in
-    ap fine (sym (append_assoc made xs ys) ∙ ap (λ m. m ++ ys) same)
-before_joined made more (fine xs) (faulty f fs) e = refl
-before_joined made more (faulty f fs) w e = cc
+    ap parsed (sym (append_assoc made xs ys) ∙ ap (λ m. m ++ ys) same)
+before_joined made more (parsed xs) (rejected f fs) e = refl
+before_joined made more (rejected f fs) w e = cc
 
 -- one more member has been listed, in a loop that stands at an index
 pub joined_on : {X A : Type 0} (f : X → Checked (List A)) (items : List X) (index : ℕ) (old made more : List A) (x : X)
-    → index < length items → x ≡ get_or items index x → before made (f x) ≡ fine more
+    → index < length items → x ≡ get_or items index x → before made (f x) ≡ parsed more
     → before old (joined (map f items)) ≡ before made (joined (map f (drop index items)))
     → before old (joined (map f items)) ≡ before more (joined (map f (drop (index + 1) items)))
 joined_on f items index old made more x within is e so_far =
@@ -81,8 +81,8 @@ joined_off f items index old made x fault within is e so_far =
 
 -- all members have been listed
 pub joined_all : {X A : Type 0} (f : X → Checked (List A)) (items : List X) (index : ℕ) (old made : List A) → length items ≤ index
-    → before old (joined (map f items)) ≡ before made (joined (map f (drop index items))) → before old (joined (map f items)) ≡ fine made
-joined_all f items index old made done so_far = so_far ∙ rw (drop_all index items done) (ap fine (append-nil made))
+    → before old (joined (map f items)) ≡ before made (joined (map f (drop index items))) → before old (joined (map f items)) ≡ parsed made
+joined_all f items index old made done so_far = so_far ∙ rw (drop_all index items done) (ap parsed (append-nil made))
 
 pub ruleset nodes = (constraints-And, constraints-Forall, constraints-Always, constraints-Sometime, constraints-AtMostOnce, constraints-SometimeAfter, constraints-SometimeBefore)
 

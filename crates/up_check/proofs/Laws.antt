@@ -3,7 +3,7 @@ use Rattle.std.proofs.Common.{◌≡◌, ℕ, List, [], ◌∷◌, Some, refl, a
 use Rattle.pddl_lex.specs.declared.error.LexError.{LexError}
 use Rattle.pddl_lex.specs.declared.tree.Sexp.{Sexp}
 use Rattle.pddl_lex.specs.Faults.{faults_to_depth}
-use Rattle.pddl_lex.specs.Verdicts.{Verdict, fine, faulty, first}
+use Rattle.pddl_lex.specs.Parses.{Parse, parsed, rejected, first}
 use Rattle.pddl_lex.proofs.Nested.{faultless_trees, trees_one, depth_faultless}
 use Rattle.pddl_parse.specs.Shapes.{Read}
 use Rattle.pddl_parse.specs.Texts as texts
@@ -18,11 +18,11 @@ use Rattle.up_check.specs.Refusals.{bytes_refused, shape_refused, refused}
 use Rattle.up_check.specs.Passes.{AreShallow, FirstFault, FormStops, HasForm, HasTrees, IsSettled, ReadsAs, Reads, Stops}
 use Rattle.up_check.proofs.Passes.{reads_as}
 
-fine_one : {F A : Type 0} (v : Verdict F A) (a b : A) → v ≡ fine a → v ≡ fine b → a ≡ b
-fine_one v a b is e = cc
+parsed_one : {F A : Type 0} (v : Parse F A) (a b : A) → v ≡ parsed a → v ≡ parsed b → a ≡ b
+parsed_one v a b is e = cc
 
-fine_never : {F A : Type 0} (v : Verdict F A) (a : A) (f : F) → v ≡ fine a → first v ≡ Some f → ⊥
-fine_never v a f is e = cc
+parsed_never : {F A : Type 0} (v : Parse F A) (a : A) (f : F) → v ≡ parsed a → first v ≡ Some f → ⊥
+parsed_never v a f is e = cc
 
 -- what a text settles of itself
 data Settled {Form A : Type 0} (read : List Sexp → Read Form) (names : Form → Checked A) (of : File) (text : List ℕ) : Type 0 where
@@ -30,29 +30,29 @@ data Settled {Form A : Type 0} (read : List Sexp → Read Form) (names : Form �
   stops : (refusal : ReadError) → Stops read names of text refusal → Settled read names of text
 
 module _ {Form A : Type 0} (read : List Sexp → Read Form) (names : Form → Checked A) (of : File) (text : List ℕ) where
-  trees_same : {a : A} (r : ReadsAs read names text a) (trees : List Sexp) → HasTrees text trees → read trees ≡ fine r.form
+  trees_same : {a : A} (r : ReadsAs read names text a) (trees : List Sexp) → HasTrees text trees → read trees ≡ parsed r.form
   trees_same r trees has = ap read (trees_one text trees r.trees has.spelled r.spelled) ∙ r.shape
 
   reads_one : (a b : A) → ReadsAs read names text a → ReadsAs read names text b → a ≡ b
   reads_one a b r s =
-      let same : r.form ≡ s.form = fine_one (read r.trees) r.form s.form r.shape (ap read (trees_one text r.trees s.trees r.spelled s.spelled) ∙ s.shape) in
-      fine_one (names r.form) a b r.known (ap names same ∙ s.known)
+      let same : r.form ≡ s.form = parsed_one (read r.trees) r.form s.form r.shape (ap read (trees_one text r.trees s.trees r.spelled s.spelled) ∙ s.shape) in
+      parsed_one (names r.form) a b r.known (ap names same ∙ s.known)
 
   never : (a : A) (refusal : ReadError) → ReadsAs read names text a → faults_to_depth text ≡ [] → Stops read names of text refusal → ⊥
   never a refusal r none (Stops.at_form (FormStops.at_bytes s)) = (let at_first = s.stops in cc)
-  never a refusal r none (Stops.at_form (FormStops.at_shape s)) = fine_never (read s.trees) r.form s.fault (trees_same r s.trees s.has) s.stops
+  never a refusal r none (Stops.at_form (FormStops.at_shape s)) = parsed_never (read s.trees) r.form s.fault (trees_same r s.trees s.has) s.stops
   never a refusal r none (Stops.at_names s) =
-      let same : s.form ≡ r.form = fine_one (read s.has.trees) s.form r.form s.has.is (trees_same r s.has.trees s.has.has) in
-      fine_never (names s.form) a s.stops.fault (ap names same ∙ r.known) s.stops.stops
+      let same : s.form ≡ r.form = parsed_one (read s.has.trees) s.form r.form s.has.is (trees_same r s.has.trees s.has.has) in
+      parsed_never (names s.form) a s.stops.fault (ap names same ∙ r.known) s.stops.stops
 
   settle_names : (form : Form) (v : Checked A) → names form ≡ v → HasForm read text form → Settled read names of text
-  settle_names form (fine a) is has = Settled.reads a (reads_as read names text form a has is) has.has.depth
-  settle_names form (faulty f fs) is has =
+  settle_names form (parsed a) is has = Settled.reads a (reads_as read names text form a has is) has.has.depth
+  settle_names form (rejected f fs) is has =
       Settled.stops (refused of f) (Stops.at_names (record { form = form; has = has; stops = record { fault = f; stops = ap first is; is = refl } }))
 
   settle_shape : (trees : List Sexp) (v : Read Form) → read trees ≡ v → HasTrees text trees → Settled read names of text
-  settle_shape trees (fine form) is has = settle_names form (names form) refl (record { trees = trees; has = has; is = is })
-  settle_shape trees (faulty f fs) is has =
+  settle_shape trees (parsed form) is has = settle_names form (names form) refl (record { trees = trees; has = has; is = is })
+  settle_shape trees (rejected f fs) is has =
       Settled.stops (shape_refused of f) (Stops.at_form (FormStops.at_shape (record { trees = trees; has = has; fault = f; stops = ap first is; is = refl })))
 
   settle_bytes : (faults : List LexError) → faults_to_depth text ≡ faults → Settled read names of text

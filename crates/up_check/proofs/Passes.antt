@@ -6,7 +6,7 @@ use Rattle.pddl_lex.specs.declared.error.LexError.TheVariants as lex
 use Rattle.pddl_lex.specs.declared.tree.Sexp.{Sexp}
 use Rattle.pddl_lex.specs.Brackets.{Trees}
 use Rattle.pddl_lex.specs.Faults.{faults_to_depth, first_of}
-use Rattle.pddl_lex.specs.Verdicts.{fine, first}
+use Rattle.pddl_lex.specs.Parses.{parsed, first}
 use Rattle.pddl_parse.specs.declared.raw.DomainForm.{DomainForm}
 use Rattle.pddl_parse.specs.declared.raw.ProblemForm.{ProblemForm}
 use Rattle.pddl_parse.specs.declared.shape.ShapeError.{ShapeError}
@@ -27,7 +27,7 @@ use Rattle.up_check.specs.Problems.{problem_names}
 use Rattle.up_check.specs.Passes.{AreShallow, FirstFault, FormStops, HasDomain, HasForm, HaveForms, IsForm, NamesStop, ReadsAs, Reads, Stops, StopsInDomain, StopsInProblem}
 
 pub has_form : {Form : Type 0} (read : List Sexp → Read Form) (text : List ℕ) (trees : List Sexp) (form : Form)
-    → Trees text trees → faults_to_depth text ≡ [] → read trees ≡ fine form → HasForm read text form
+    → Trees text trees → faults_to_depth text ≡ [] → read trees ≡ parsed form → HasForm read text form
 has_form read text trees form spelled depth is = record { trees = trees; has = record { spelled = spelled; depth = depth }; is = is }
 
 pub stops_at_bytes : {Form : Type 0} (read : List Sexp → Read Form) (of : File) (text : List ℕ) (error : LexError) (refusal : ReadError)
@@ -71,7 +71,7 @@ stops_unread read names of text refusal stops = Stops.at_form stops
 
 -- a form whose names are known
 pub reads_as : {Form A : Type 0} (read : List Sexp → Read Form) (names : Form → Checked A) (text : List ℕ) (form : Form) (it : A)
-    → HasForm read text form → names form ≡ fine it → ReadsAs read names text it
+    → HasForm read text form → names form ≡ parsed it → ReadsAs read names text it
 reads_as read names text form it has known = record { trees = has.trees; spelled = has.has.spelled; form = form; shape = has.is; known = known }
 
 pub is_form : {T Form : Type 0} (read : List Sexp → Read Form) (text : List ℕ) (form : Form) (result : Result T ReadError) → HasForm read text form
@@ -85,12 +85,12 @@ is_shallow read text form (Ok value) has = has.has.depth
 is_shallow read text form (Err refusal) has = tt
 
 pub has_domain : (text : List ℕ) (form : DomainForm) (result : Result Domain ReadError) → HasForm texts.domain text form
-    → IfOk result (λ made. domain_names form ≡ fine (known_of made)) → IfOk result (λ made. HasDomain text (known_of made))
+    → IfOk result (λ made. domain_names form ≡ parsed (known_of made)) → IfOk result (λ made. HasDomain text (known_of made))
 has_domain text form (Ok made) has known = record { reads = reads_as texts.domain domain_names text form (known_of made) has known; depth = has.has.depth }
 has_domain text form (Err refusal) has known = tt
 
 pub reads_problem : (of : Known) (text : List ℕ) (form : ProblemForm) (result : Result Parts ReadError) → HasForm texts.problem text form
-    → IfOk result (λ made. problem_names of form ≡ fine made) → IfOk result (ReadsAs texts.problem (problem_names of) text)
+    → IfOk result (λ made. problem_names of form ≡ parsed made) → IfOk result (ReadsAs texts.problem (problem_names of) text)
 reads_problem of text form (Ok made) has known = reads_as texts.problem (problem_names of) text form made has known
 reads_problem of text form (Err refusal) has known = tt
 

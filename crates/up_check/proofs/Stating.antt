@@ -2,7 +2,7 @@
 use Rattle.std.proofs.Common.{◌≡◌, ℕ, ◌+◌, ◌<◌, ◌≤◌, length, List, [], ◌∷◌, ◌++◌, drop, get_or, Some, refl}
 use Rattle.std.proofs.lemmas.List.{drop_more, drop_all}
 use Rattle.up_text.specs.declared.name.Name.{Name}
-use Rattle.pddl_lex.specs.Verdicts.{fine, first, behind}
+use Rattle.pddl_lex.specs.Parses.{parsed, first, behind}
 use Rattle.pddl_parse.specs.declared.raw.Ident.{Ident}
 use Rattle.pddl_parse.specs.declared.raw.RawInit.{RawInit}
 use Rattle.up_phrase.specs.declared.fault.Fault.{Fault}
@@ -48,7 +48,7 @@ pub stated_off : (names : Declarations) (before : Initial) (items : List RawInit
 stated_off names before items index x fault within is e = rw (drop_more items index x within, ← is) (first_behind (member_faults names before x) _ fault e)
 
 pub stated_all : (names : Declarations) (before : Initial) (items : List RawInit) (index : ℕ) → length items ≤ index
-    → stated names before (drop index items) ≡ fine before
+    → stated names before (drop index items) ≡ parsed before
 stated_all names before items index done = rw (drop_all index items done) refl
 
 pub ruleset stating = (foremost_more, first_behind)

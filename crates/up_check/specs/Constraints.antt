@@ -1,6 +1,6 @@
 -- Constraints of raw constraints.
 use Rattle.std.specs.Prelude.{List, [], ◌∷◌, ◌++◌, map}
-use Rattle.pddl_lex.specs.Verdicts.{fine, over, over_two}
+use Rattle.pddl_lex.specs.Parses.{parsed, over, over_two}
 use Rattle.pddl_parse.specs.declared.raw.RawGroup.{RawGroup}
 use Rattle.pddl_parse.specs.declared.raw.RawFormula.{RawFormula}
 use Rattle.pddl_parse.specs.declared.raw.RawConstraint.{RawConstraint, Row_of-RawConstraint, end_of-RawConstraint, more_of-RawConstraint}
@@ -37,7 +37,7 @@ ruled_two names vars rule f g = over (λ (both : Formula × Formula). for_each v
 
 -- the lists of all parts as one
 abbrev pub joined : {A : Type 0} → List (Checked (List A)) → Checked (List A)
-joined [] = fine []
+joined [] = parsed []
 joined (v ∷ vs) = over_two (λ xs ys. xs ++ ys) v (joined vs)
 
 unfoldable mutual

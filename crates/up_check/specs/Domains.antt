@@ -2,7 +2,7 @@
 use Rattle.std.specs.Prelude.{not, List, [], ◌∷◌}
 use Rattle.up_text.specs.declared.name.Name.{Name}
 use Rattle.up_text.specs.Fresh.{is_among, with_name}
-use Rattle.pddl_lex.specs.Verdicts.{fine, behind, over_two}
+use Rattle.pddl_lex.specs.Parses.{parsed, behind, over_two}
 use Rattle.pddl_parse.specs.declared.raw.Ident.{Ident}
 use Rattle.pddl_parse.specs.declared.raw.RawAction.{RawAction}
 use Rattle.pddl_parse.specs.declared.raw.DomainForm.{DomainForm}
@@ -47,7 +47,7 @@ second declared it = unless (not (is_among declared it.name)) (at it.place Dupli
 
 -- actions behind those of these names
 abbrev pub actions : Declarations → List Name → List RawAction → Checked (List Action)
-actions names declared [] = fine []
+actions names declared [] = parsed []
 actions names declared (raw ∷ raws) =
     behind (second declared raw.name) (over_two (λ a more. a ∷ more) (action names raw) (actions names (with_name declared raw.name.name) raws))
 

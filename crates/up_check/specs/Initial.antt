@@ -9,7 +9,7 @@ use Rattle.up_text.specs.declared.place.Place.{Place}
 use Rattle.up_text.specs.Names.{same_name}
 use Rattle.up_frac.specs.Arithmetic.{compare}
 use Rattle.up_frac.specs.declared.frac.Frac.{Frac}
-use Rattle.pddl_lex.specs.Verdicts.{fine, behind}
+use Rattle.pddl_lex.specs.Parses.{parsed, behind}
 use Rattle.pddl_parse.specs.declared.raw.Ident.{Ident}
 use Rattle.pddl_parse.specs.declared.raw.RawGround.{RawGround}
 use Rattle.pddl_parse.specs.declared.raw.RawValue.{RawValue}
@@ -133,7 +133,7 @@ with_member before (member.Value place term value) = with_value before term valu
 
 -- the members of a list behind what is stated before them
 abbrev pub stated : Declarations → Initial → List RawInit → Checked Initial
-stated names before [] = fine before
+stated names before [] = parsed before
 stated names before (member ∷ others) = behind (member_faults names before member) (stated names (with_member before member) others)
 
 abbrev pub initial : Declarations → List RawInit → Checked Initial

@@ -1,6 +1,6 @@
 -- The metric of a raw metric.
 use Rattle.std.specs.Prelude.{[], Option, Some, None}
-use Rattle.pddl_lex.specs.Verdicts.{fine, over}
+use Rattle.pddl_lex.specs.Parses.{parsed, over}
 use Rattle.pddl_parse.specs.declared.raw.RawMetric.{RawMetric}
 use Rattle.up_tree.specs.declared.expr.Expr.{Expr}
 use Rattle.up_tree.specs.declared.problem.Metric.{Metric}
@@ -15,5 +15,5 @@ metric names raw = over (λ (value : Expr). record { minimize = raw.minimize; va
 
 -- the metric, if there is one
 abbrev pub metric_of : Declarations → Option RawMetric → Checked (Option Metric)
-metric_of names None = fine None
+metric_of names None = parsed None
 metric_of names (Some raw) = over (λ (it : Metric). Some it) (metric names raw)

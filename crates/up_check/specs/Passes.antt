@@ -4,7 +4,7 @@ use Rattle.pddl_lex.specs.declared.error.LexError.{LexError}
 use Rattle.pddl_lex.specs.declared.tree.Sexp.{Sexp}
 use Rattle.pddl_lex.specs.Brackets.{Trees}
 use Rattle.pddl_lex.specs.Faults.{faults_to_depth, first_of}
-use Rattle.pddl_lex.specs.Verdicts.{fine, first}
+use Rattle.pddl_lex.specs.Parses.{parsed, first}
 use Rattle.pddl_parse.specs.declared.shape.ShapeError.{ShapeError}
 use Rattle.pddl_parse.specs.Shapes.{Read}
 use Rattle.pddl_parse.specs.Texts as texts
@@ -27,7 +27,7 @@ pub record HasTrees (text : List ℕ) (trees : List Sexp) : Type 0 where
 pub record HasForm {Form : Type 0} (read : List Sexp → Read Form) (text : List ℕ) (form : Form) : Type 0 where
   pub trees : List Sexp
   pub has : HasTrees text trees
-  pub is : read trees ≡ fine form
+  pub is : read trees ≡ parsed form
 
 -- the refusal at the first fault of a text's bytes and brackets
 pub record StopsAtBytes (of : File) (text : List ℕ) (refusal : ReadError) : Type 0 where
@@ -77,8 +77,8 @@ pub record ReadsAs {Form A : Type 0} (read : List Sexp → Read Form) (names : F
   pub trees : List Sexp
   pub spelled : Trees text trees
   pub form : Form
-  pub shape : read trees ≡ fine form
-  pub known : names form ≡ fine it
+  pub shape : read trees ≡ parsed form
+  pub known : names form ≡ parsed it
 
 -- The two texts read as a problem: the first as a domain, and the second as the problem in it.
 pub record Reads (domain problem : List ℕ) (parts : Parts) : Type 0 where

@@ -2,7 +2,7 @@
 use Rattle.std.specs.Prelude.{ℕ, List, [], length, map, Option}
 use Rattle.up_text.specs.declared.name.Name.{Name}
 use Rattle.up_text.specs.Names.{same_name}
-use Rattle.pddl_lex.specs.Verdicts.{behind, before, over, over_two}
+use Rattle.pddl_lex.specs.Parses.{behind, before, over, over_two}
 use Rattle.pddl_parse.specs.declared.raw.Ident.{Ident}
 use Rattle.pddl_parse.specs.declared.raw.ProblemForm.{ProblemForm}
 use Rattle.up_tree.specs.declared.action.Action.{Action}

@@ -1,6 +1,6 @@
 ghost use Rattle.std.specs.Prelude.{◌≡◌, ◌∷◌, [], Some, IfOk, IfErr, OnOk, not};
 ghost use Rattle.up_text.specs.Fresh.{is_among, with_name};
-ghost use Rattle.pddl_lex.specs.Verdicts.{fine, first};
+ghost use Rattle.pddl_lex.specs.Parses.{parsed, first};
 ghost use Rattle.up_phrase.specs.Declarations.{declarations};
 ghost use Rattle.up_check.specs.Domains.{actions, declared, domain_names, known, known_of, second};
 
@@ -26,7 +26,7 @@ pub struct Domain {
 /// The domain of a form, by its sections in the order types, constants, predicates, functions, actions, constraints.
 #[tactic(auto, using(up_phrase::proofs::Steps::steps))]
 pub fn checked_domain(alloc: Global, form: &DomainForm) -> Result<Domain, Fault>
-    ensures ok { IfOk result (λ made. domain_names form.now ≡ fine (known_of made)) }
+    ensures ok { IfOk result (λ made. domain_names form.now ≡ parsed (known_of made)) }
     ensures err { IfErr result (λ fault. ¬ (fault ≡ Fault.Memory) → first (domain_names form.now) ≡ Some fault) }
 {
     match declared_names(alloc, form) {
@@ -38,7 +38,7 @@ pub fn checked_domain(alloc: Global, form: &DomainForm) -> Result<Domain, Fault>
 // Types, then constants, then predicates, then functions.
 #[tactic(auto, using(crate::proofs::Declaring::declaring, up_phrase::proofs::Steps::steps))]
 fn declared_names(alloc: Global, form: &DomainForm) -> Result<Names, Fault>
-    ensures ok { IfOk result (λ names. declared form.now ≡ fine (declarations names)) }
+    ensures ok { IfOk result (λ names. declared form.now ≡ parsed (declarations names)) }
     ensures err { IfErr result (λ fault. ¬ (fault ≡ Fault.Memory) → first (declared form.now) ≡ Some fault) }
 {
     let types = declared_types(alloc, form.types.as_slice())?;
@@ -52,7 +52,7 @@ fn declared_names(alloc: Global, form: &DomainForm) -> Result<Names, Fault>
 // Actions, then constraints.
 #[tactic(auto, using(up_phrase::proofs::Steps::steps))]
 fn in_names(alloc: Global, form: &DomainForm, names: Names) -> Result<Domain, Fault>
-    ensures ok { IfOk result (λ made. known form.now (declarations names) ≡ fine (known_of made)) }
+    ensures ok { IfOk result (λ made. known form.now (declarations names) ≡ parsed (known_of made)) }
     ensures err { IfErr result (λ fault. ¬ (fault ≡ Fault.Memory) → first (known form.now (declarations names)) ≡ Some fault) }
 {
     let actions = checked_actions(alloc, &names, form.actions.as_slice())?;
@@ -68,7 +68,7 @@ fn in_names(alloc: Global, form: &DomainForm, names: Names) -> Result<Domain, Fa
 
 #[tactic(auto, using(crate::proofs::Declaring::declaring, up_phrase::proofs::Steps::steps))]
 fn checked_actions(alloc: Global, names: &Names, raws: &[RawAction]) -> Result<List<Action>, Fault>
-    ensures ok { IfOk result (λ made. actions (declarations names.now) [] raws.now ≡ fine made) }
+    ensures ok { IfOk result (λ made. actions (declarations names.now) [] raws.now ≡ parsed made) }
     ensures err { IfErr result (λ fault. ¬ (fault ≡ Fault.Memory) → first (actions (declarations names.now) [] raws.now) ≡ Some fault) }
 {
     let mut declared = NameSet::new(alloc);

@@ -1,5 +1,5 @@
 ghost use Rattle.std.specs.Prelude.{◌≡◌, ◌==◌, [], ◌∷◌, map, true, Some, IfOk, IfErr, OnOk};
-ghost use Rattle.pddl_lex.specs.Verdicts.{fine, first};
+ghost use Rattle.pddl_lex.specs.Parses.{parsed, first};
 ghost use Rattle.up_phrase.specs.Declarations.{declarations};
 ghost use Rattle.up_phrase.specs.Exprs.{no_number};
 ghost use Rattle.up_phrase.specs.Lookups.{type_of, predicate_of, function_of};
@@ -39,7 +39,7 @@ pub struct Init {
 /// argument or value; `Duplicate` at the bracket of a value whose term has another one before it.
 #[tactic(auto, using(crate::proofs::Stating::stating))]
 pub fn checked_init(alloc: Global, names: &Names, members: &[RawInit]) -> Result<Init, Fault>
-    ensures ok { IfOk result (λ init. initial (declarations names.now) members.now ≡ fine (held init)) }
+    ensures ok { IfOk result (λ init. initial (declarations names.now) members.now ≡ parsed (held init)) }
     ensures err { IfErr result (λ fault. ¬ (fault ≡ Fault.Memory) → first (initial (declarations names.now) members.now) ≡ Some fault) }
 {
     let mut init = Init {
@@ -55,7 +55,7 @@ pub fn checked_init(alloc: Global, names: &Names, members: &[RawInit]) -> Result
 
 #[tactic(auto, using(crate::proofs::Stating::stating))]
 fn add_member(alloc: Global, names: &Names, member: &RawInit, init: &mut Init) -> Result<(), Fault>
-    ensures fine { IfOk result (λ _. member_faults (declarations names.now) (held init.old) member.now ≡ []) }
+    ensures parsed { IfOk result (λ _. member_faults (declarations names.now) (held init.old) member.now ≡ []) }
     ensures ok { OnOk result (held init.new ≡ with_member (held init.old) member.now) }
     ensures err { IfErr result (λ fault. ¬ (fault ≡ Fault.Memory) → foremost (member_faults (declarations names.now) (held init.old) member.now) ≡ Some fault) }
 {
@@ -170,7 +170,7 @@ fn add_value(
     value: &RawValue,
     init: &mut Init,
 ) -> Result<(), Fault>
-    ensures fine { IfOk result (λ _. term_faults (declarations names.now) (held init.old) place term.now value.now (function_of (declarations names.now) term.now.name.name) ≡ []) }
+    ensures parsed { IfOk result (λ _. term_faults (declarations names.now) (held init.old) place term.now value.now (function_of (declarations names.now) term.now.name.name) ≡ []) }
     ensures ok { OnOk result (held init.new ≡ with_value (held init.old) term.now value.now) }
     ensures err { IfErr result (λ fault. ¬ (fault ≡ Fault.Memory) →
         foremost (term_faults (declarations names.now) (held init.old) place term.now value.now (function_of (declarations names.now) term.now.name.name)) ≡ Some fault) }
@@ -194,7 +194,7 @@ fn keep_value(
     gives: &Gives,
     init: &mut Init,
 ) -> Result<(), Fault>
-    ensures fine { IfOk result (λ _. value_faults (declarations names.now) (held init.old) place term.now value.now gives.now ≡ []) }
+    ensures parsed { IfOk result (λ _. value_faults (declarations names.now) (held init.old) place term.now value.now gives.now ≡ []) }
     ensures ok { OnOk result (held init.new ≡ with_value (held init.old) term.now value.now) }
     ensures err { IfErr result (λ fault. ¬ (fault ≡ Fault.Memory) →
         foremost (value_faults (declarations names.now) (held init.old) place term.now value.now gives.now) ≡ Some fault) }
@@ -285,7 +285,7 @@ fn keep_number(
     number: Frac,
     numbers: &mut IndexMap<Ground, Frac>,
 ) -> Result<(), Fault>
-    ensures fine { IfOk result (λ _. keeps_number (number_at term.now (map number_fact numbers.old.entries)) number ≡ true) }
+    ensures parsed { IfOk result (λ _. keeps_number (number_at term.now (map number_fact numbers.old.entries)) number ≡ true) }
     ensures ok { OnOk result (map number_fact numbers.new.entries ≡ with_number (map number_fact numbers.old.entries) term.now number) }
     ensures err { IfErr result (λ fault. ¬ (fault ≡ Fault.Memory) →
         unless (keeps_number (number_at term.now (map number_fact numbers.old.entries)) number) (second_value place term.now) ≡ fault ∷ []) }
@@ -305,7 +305,7 @@ fn keep_object(
     object: &Name,
     values: &mut IndexMap<Ground, Name>,
 ) -> Result<(), Fault>
-    ensures fine { IfOk result (λ _. keeps_object (object_at term.now (map value_fact values.old.entries)) object.now ≡ true) }
+    ensures parsed { IfOk result (λ _. keeps_object (object_at term.now (map value_fact values.old.entries)) object.now ≡ true) }
     ensures ok { OnOk result (map value_fact values.new.entries ≡ with_object (map value_fact values.old.entries) term.now object.now) }
     ensures err { IfErr result (λ fault. ¬ (fault ≡ Fault.Memory) →
         unless (keeps_object (object_at term.now (map value_fact values.old.entries)) object.now) (second_value place term.now) ≡ fault ∷ []) }

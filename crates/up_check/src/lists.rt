@@ -1,5 +1,5 @@
 ghost use Rattle.std.specs.Prelude.{◌≡◌, map, Some, IfOk, IfErr};
-ghost use Rattle.pddl_lex.specs.Verdicts.{fine, first};
+ghost use Rattle.pddl_lex.specs.Parses.{parsed, first};
 ghost use Rattle.up_phrase.specs.Declarations.{declarations};
 ghost use Rattle.up_phrase.specs.Scopes.{typed};
 ghost use Rattle.up_check.specs.Initial.{initial};
@@ -88,7 +88,7 @@ fn functions_of(alloc: Global, table: IndexMap<Name, Signature>) -> Result<List<
 
 /// The initial state that a problem text lists, as `checked_init` reads it.
 pub fn init_of(alloc: Global, names: &Names, members: &[RawInit]) -> Result<Initial, Fault>
-    ensures ok { IfOk result (λ made. initial (declarations names.now) members.now ≡ fine made) }
+    ensures ok { IfOk result (λ made. initial (declarations names.now) members.now ≡ parsed made) }
     ensures err { IfErr result (λ fault. ¬ (fault ≡ Fault.Memory) → first (initial (declarations names.now) members.now) ≡ Some fault) }
 {
     let init = checked_init(alloc, names, members)?;

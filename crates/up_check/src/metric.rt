@@ -1,5 +1,5 @@
 ghost use Rattle.std.specs.Prelude.{◌≡◌, Some, IfOk, IfErr};
-ghost use Rattle.pddl_lex.specs.Verdicts.{fine, first};
+ghost use Rattle.pddl_lex.specs.Parses.{parsed, first};
 ghost use Rattle.up_phrase.specs.Declarations.{declarations};
 ghost use Rattle.up_check.specs.Metrics.{metric};
 
@@ -11,7 +11,7 @@ use up_tree::Metric;
 /// The metric of a problem, in which a bare name is a function without arguments.
 #[tactic(auto, using(up_phrase::proofs::Steps::steps))]
 pub fn checked_metric(alloc: Global, names: &Names, raw: &RawMetric) -> Result<Metric, Fault>
-    ensures ok { IfOk result (λ made. metric (declarations names.now) raw.now ≡ fine made) }
+    ensures ok { IfOk result (λ made. metric (declarations names.now) raw.now ≡ parsed made) }
     ensures err { IfErr result (λ fault. ¬ (fault ≡ Fault.Memory) → first (metric (declarations names.now) raw.now) ≡ Some fault) }
 {
     let scope = Scope::new(alloc);

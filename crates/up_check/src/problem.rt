@@ -1,5 +1,5 @@
 ghost use Rattle.std.specs.Prelude.{◌≡◌, ◌∷◌, [], Some, IfOk, IfErr};
-ghost use Rattle.pddl_lex.specs.Verdicts.{fine, first};
+ghost use Rattle.pddl_lex.specs.Parses.{parsed, first};
 ghost use Rattle.up_phrase.specs.Conditions.{formula};
 ghost use Rattle.up_phrase.specs.Declarations.{declarations};
 ghost use Rattle.up_declare.specs.Declaring.{with_objects};
@@ -37,7 +37,7 @@ pub struct Titles {
 /// The problem of a form, by its sections in the order `:domain`, objects, init, goal, constraints, metric.
 #[tactic(auto, using(up_phrase::proofs::Steps::steps))]
 pub fn checked_problem(alloc: Global, domain: Domain, form: &ProblemForm) -> Result<Problem, Fault>
-    ensures ok { IfOk result (λ made. problem_names (known_of domain) form.now ≡ fine made) }
+    ensures ok { IfOk result (λ made. problem_names (known_of domain) form.now ≡ parsed made) }
     ensures err { IfErr result (λ fault. ¬ (fault ≡ Fault.Memory) → first (problem_names (known_of domain) form.now) ≡ Some fault) }
 {
     match check_domain(alloc, &domain.name, &form.domain) {
@@ -60,7 +60,7 @@ fn check_domain(alloc: Global, name: &Name, stated: &Ident) -> Result<(), Fault>
 
 #[tactic(auto, using(up_phrase::proofs::Steps::steps))]
 fn in_domain(alloc: Global, domain: Domain, form: &ProblemForm) -> Result<Problem, Fault>
-    ensures ok { IfOk result (λ made. objects_on (declarations domain.names) domain.actions domain.constraints form.now ≡ fine made) }
+    ensures ok { IfOk result (λ made. objects_on (declarations domain.names) domain.actions domain.constraints form.now ≡ parsed made) }
     ensures err { IfErr result (λ fault. ¬ (fault ≡ Fault.Memory) →
         first (objects_on (declarations domain.names) domain.actions domain.constraints form.now) ≡ Some fault) }
 {
@@ -78,7 +78,7 @@ fn in_domain(alloc: Global, domain: Domain, form: &ProblemForm) -> Result<Proble
 }
 
 fn with_objects(alloc: Global, names: Names, groups: &[RawGroup]) -> Result<Names, Fault>
-    ensures ok { IfOk result (λ made. with_objects groups.now (declarations names) ≡ fine (declarations made)) }
+    ensures ok { IfOk result (λ made. with_objects groups.now (declarations names) ≡ parsed (declarations made)) }
     ensures err { IfErr result (λ fault. ¬ (fault ≡ Fault.Memory) → first (with_objects groups.now (declarations names)) ≡ Some fault) }
 {
     let mut names = names;
@@ -98,7 +98,7 @@ fn in_names(
     form: &ProblemForm,
     names: Names,
 ) -> Result<Problem, Fault>
-    ensures ok { IfOk result (λ made. in_names constants actions constraints form.now (declarations names) ≡ fine made) }
+    ensures ok { IfOk result (λ made. in_names constants actions constraints form.now (declarations names) ≡ parsed made) }
     ensures err { IfErr result (λ fault. ¬ (fault ≡ Fault.Memory) →
         first (in_names constants actions constraints form.now (declarations names)) ≡ Some fault) }
 {
@@ -115,7 +115,7 @@ fn checked_statements(
     constraints: List<Constraint>,
     form: &ProblemForm,
 ) -> Result<Stated, Fault>
-    ensures ok { IfOk result (λ made. stated (declarations names.now) constraints form.now ≡ fine made) }
+    ensures ok { IfOk result (λ made. stated (declarations names.now) constraints form.now ≡ parsed made) }
     ensures err { IfErr result (λ fault. ¬ (fault ≡ Fault.Memory) → first (stated (declarations names.now) constraints form.now) ≡ Some fault) }
 {
     let init = init_of(alloc, names, form.init.as_slice())?;
@@ -131,7 +131,7 @@ fn checked_statements(
 }
 
 fn goal_of(alloc: Global, names: &Names, goal: &RawFormula) -> Result<Box<Formula>, Fault>
-    ensures ok { IfOk result (λ made. formula (declarations names.now) [] Setting.Plain goal.now ≡ fine made) }
+    ensures ok { IfOk result (λ made. formula (declarations names.now) [] Setting.Plain goal.now ≡ parsed made) }
     ensures err { IfErr result (λ fault. ¬ (fault ≡ Fault.Memory) → first (formula (declarations names.now) [] Setting.Plain goal.now) ≡ Some fault) }
 {
     Ok(Box::new(alloc, checked_goal(alloc, names, goal)?)?)
@@ -143,7 +143,7 @@ fn metric_of(
     names: &Names,
     metric: &Option<RawMetric>,
 ) -> Result<Option<Box<Metric>>, Fault>
-    ensures ok { IfOk result (λ made. metric_of (declarations names.now) metric.now ≡ fine made) }
+    ensures ok { IfOk result (λ made. metric_of (declarations names.now) metric.now ≡ parsed made) }
     ensures err { IfErr result (λ fault. ¬ (fault ≡ Fault.Memory) → first (metric_of (declarations names.now) metric.now) ≡ Some fault) }
 {
     match metric {

@@ -1,6 +1,6 @@
 ghost use Rattle.std.specs.Prelude.{◌≡◌, [], IfOk, IfErr, OnOk};
 ghost use Rattle.pddl_lex.specs.Faults.{faults_to_depth};
-ghost use Rattle.pddl_lex.specs.Verdicts.{fine};
+ghost use Rattle.pddl_lex.specs.Parses.{parsed};
 ghost use Rattle.pddl_parse.specs.Texts.{domain, problem};
 ghost use Rattle.up_check.specs.Domains.{domain_names, known_of};
 ghost use Rattle.up_check.specs.Passes.{AreShallow, FirstFault, FormStops, HasDomain, HasForm, HaveForms, IsForm, NamesStop, ReadsAs, Reads, StopsInDomain, StopsInProblem};
@@ -60,7 +60,7 @@ fn problem_of(alloc: Global, domain: Domain, text: &[u8]) -> Result<Problem, Rea
 
 #[tactic(auto, using(crate::proofs::Passes::naming))]
 fn named_domain(alloc: Global, form: &DomainForm) -> Result<Domain, ReadError>
-    ensures ok { IfOk result (λ made. domain_names form.now ≡ fine (known_of made)) }
+    ensures ok { IfOk result (λ made. domain_names form.now ≡ parsed (known_of made)) }
     ensures refused { IfErr result (λ refusal. ¬ (refusal ≡ ReadError.Memory) → NamesStop domain_names File.Domain form.now refusal) }
 {
     match checked_domain(alloc, form) {
@@ -71,7 +71,7 @@ fn named_domain(alloc: Global, form: &DomainForm) -> Result<Domain, ReadError>
 
 #[tactic(auto, using(crate::proofs::Passes::naming))]
 fn named_problem(alloc: Global, domain: Domain, form: &ProblemForm) -> Result<Problem, ReadError>
-    ensures ok { IfOk result (λ made. problem_names (known_of domain) form.now ≡ fine made) }
+    ensures ok { IfOk result (λ made. problem_names (known_of domain) form.now ≡ parsed made) }
     ensures refused { IfErr result (λ refusal. ¬ (refusal ≡ ReadError.Memory) → NamesStop (problem_names (known_of domain)) File.Problem form.now refusal) }
 {
     match checked_problem(alloc, domain, form) {

@@ -1,6 +1,6 @@
 -- Constants and objects, predicates and functions, declared one after the other.
 use Rattle.std.specs.Prelude.{Bool, not, ◌||◌, List, [], ◌∷◌, ◌++◌, map, Option, Some, None, is_some}
-use Rattle.pddl_lex.specs.Verdicts.{fine, behind, before}
+use Rattle.pddl_lex.specs.Parses.{parsed, behind, before}
 use Rattle.pddl_parse.specs.declared.raw.Ident.{Ident}
 use Rattle.pddl_parse.specs.declared.raw.RawGroup.{RawGroup}
 use Rattle.pddl_parse.specs.declared.raw.RawSymbol.{RawSymbol}
@@ -35,8 +35,8 @@ and_function names f signature =
 
 -- a name that is declared as an object of the first type, or isn't: with the same type once more it changes nothing
 abbrev pub declared_as : Option Name → Name → Ident → Declarations → Checked Declarations
-declared_as None of it names = fine (and_object names it.name of)
-declared_as (Some first) of it names = behind (unless (same_name first of) (at it.place Duplicate it.name)) (fine names)
+declared_as None of it names = parsed (and_object names it.name of)
+declared_as (Some first) of it names = behind (unless (same_name first of) (at it.place Duplicate it.name)) (parsed names)
 
 abbrev pub with_object : Name → Ident → Declarations → Checked Declarations
 with_object of it names = declared_as (type_of names it.name) of it names
@@ -44,7 +44,7 @@ with_object of it names = declared_as (type_of names it.name) of it names
 -- the faults of the names of a group come before that of its type
 abbrev pub with_group : RawGroup → Declarations → Checked Declarations
 with_group group names =
-    after (in_turn (with_object (type_named group.of)) group.names names) (λ more. behind (type_fault more group.of) (fine more))
+    after (in_turn (with_object (type_named group.of)) group.names names) (λ more. behind (type_fault more group.of) (parsed more))
 
 -- constants or objects
 abbrev pub with_objects : List RawGroup → Declarations → Checked Declarations
@@ -60,7 +60,7 @@ each_of of items = map (λ it. of) items
 
 -- the types of parameters, of which each has that of its group
 abbrev pub arg_types : Declarations → List RawGroup → Checked (List Name)
-arg_types names [] = fine []
+arg_types names [] = parsed []
 arg_types names (group ∷ others) = behind (type_fault names group.of) (before (each_of (type_named group.of) group.names) (arg_types names others))
 
 -- the types of the parameters of a predicate or function whose name is new
@@ -69,7 +69,7 @@ new_symbol names symbol =
     behind (unless (not (is_symbol names symbol.name.name)) (at symbol.name.place Duplicate symbol.name.name)) (arg_types names symbol.params)
 
 abbrev pub with_predicate : RawSymbol → Declarations → Checked Declarations
-with_predicate symbol names = after (new_symbol names symbol) (λ args. fine (and_predicate names symbol.name.name args))
+with_predicate symbol names = after (new_symbol names symbol) (λ args. parsed (and_predicate names symbol.name.name args))
 
 abbrev pub with_predicates : List RawSymbol → Declarations → Checked Declarations
 with_predicates symbols = in_turn with_predicate symbols
@@ -87,12 +87,12 @@ abbrev pub signature : RawGives → List Name → Signature
 signature of args = record { args = args; gives = given of }
 
 abbrev pub with_function : RawGives → RawSymbol → Declarations → Checked Declarations
-with_function of symbol names = after (new_symbol names symbol) (λ args. fine (and_function names symbol.name.name (signature of args)))
+with_function of symbol names = after (new_symbol names symbol) (λ args. parsed (and_function names symbol.name.name (signature of args)))
 
 -- the faults of the functions of a group come before that of what they give
 abbrev pub with_function_group : RawFunctions → Declarations → Checked Declarations
 with_function_group group names =
-    after (in_turn (with_function group.gives) group.functions names) (λ more. behind (gives_fault more group.gives) (fine more))
+    after (in_turn (with_function group.gives) group.functions names) (λ more. behind (gives_fault more group.gives) (parsed more))
 
 abbrev pub with_functions : List RawFunctions → Declarations → Checked Declarations
 with_functions groups = in_turn with_function_group groups

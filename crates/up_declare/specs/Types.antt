@@ -2,7 +2,7 @@
 use Rattle.std.specs.Prelude.{ℕ, zero, suc, ◌+◌, Bool, true, false, ◌||◌, List, [], ◌∷◌, ◌++◌, length, Option, Some, None, is_some, if◌then◌else◌}
 use Rattle.std.specs.Map.{lookup}
 use Rattle.std.specs.Option.{option_map_or}
-use Rattle.pddl_lex.specs.Verdicts.{fine, behind}
+use Rattle.pddl_lex.specs.Parses.{parsed, behind}
 use Rattle.pddl_parse.specs.declared.raw.Ident.{Ident}
 use Rattle.pddl_parse.specs.declared.raw.RawGroup.{RawGroup}
 use Rattle.up_text.specs.declared.name.Name.{Name}
@@ -71,4 +71,4 @@ type_faults types seen (group ∷ others) =
 
 -- the types that a domain lists, with those that it names only as parents
 abbrev pub types : List RawGroup → Checked Types
-types groups = behind (type_faults (with_groups groups []) [] groups) (fine (with_parents groups (with_groups groups [])))
+types groups = behind (type_faults (with_groups groups []) [] groups) (parsed (with_parents groups (with_groups groups [])))

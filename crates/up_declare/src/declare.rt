@@ -1,5 +1,5 @@
 ghost use Rattle.std.specs.Prelude.{◌≡◌, ◌∷◌, [], ◌++◌, false, Some, None, IfOk, IfErr, OnOk};
-ghost use Rattle.pddl_lex.specs.Verdicts.{fine, first};
+ghost use Rattle.pddl_lex.specs.Parses.{parsed, first};
 ghost use Rattle.up_phrase.specs.Declarations.{declarations};
 ghost use Rattle.up_phrase.specs.Lookups.{type_of, predicate_of, function_of};
 ghost use Rattle.up_phrase.specs.Scopes.{type_named};
@@ -16,7 +16,7 @@ use up_tree::Gives;
 ///
 /// Errors: `Duplicate` at a name that has another type already, `UnknownName` at a type, after the faults of the names before it.
 pub fn declare_objects(alloc: Global, names: &mut Names, groups: &[RawGroup]) -> Result<(), Fault>
-    ensures ok { OnOk result (with_objects groups.now (declarations names.old) ≡ fine (declarations names.new)) }
+    ensures ok { OnOk result (with_objects groups.now (declarations names.old) ≡ parsed (declarations names.new)) }
     ensures err { IfErr result (λ fault. ¬ (fault ≡ Fault.Memory) → first (with_objects groups.now (declarations names.old)) ≡ Some fault) }
 {
     for group in groups {
@@ -26,7 +26,7 @@ pub fn declare_objects(alloc: Global, names: &mut Names, groups: &[RawGroup]) ->
 }
 
 fn declare_group(alloc: Global, names: &mut Names, group: &RawGroup) -> Result<(), Fault>
-    ensures ok { OnOk result (with_group group.now (declarations names.old) ≡ fine (declarations names.new)) }
+    ensures ok { OnOk result (with_group group.now (declarations names.old) ≡ parsed (declarations names.new)) }
     ensures err { IfErr result (λ fault. ¬ (fault ≡ Fault.Memory) → first (with_group group.now (declarations names.old)) ≡ Some fault) }
 {
     let of = type_named(alloc, &group.of)?;
@@ -35,7 +35,7 @@ fn declare_group(alloc: Global, names: &mut Names, group: &RawGroup) -> Result<(
 }
 
 fn declare_each(alloc: Global, names: &mut Names, idents: &[Ident], of: &Name) -> Result<(), Fault>
-    ensures ok { OnOk result (in_turn (with_object of.now) idents.now (declarations names.old) ≡ fine (declarations names.new)) }
+    ensures ok { OnOk result (in_turn (with_object of.now) idents.now (declarations names.old) ≡ parsed (declarations names.new)) }
     ensures err { IfErr result (λ fault. ¬ (fault ≡ Fault.Memory) → first (in_turn (with_object of.now) idents.now (declarations names.old)) ≡ Some fault) }
 {
     for ident in idents {
@@ -45,7 +45,7 @@ fn declare_each(alloc: Global, names: &mut Names, idents: &[Ident], of: &Name) -
 }
 
 fn declare_object(alloc: Global, names: &mut Names, ident: &Ident, of: &Name) -> Result<(), Fault>
-    ensures ok { OnOk result (with_object of.now ident.now (declarations names.old) ≡ fine (declarations names.new)) }
+    ensures ok { OnOk result (with_object of.now ident.now (declarations names.old) ≡ parsed (declarations names.new)) }
     ensures err { IfErr result (λ fault. ¬ (fault ≡ Fault.Memory) →
         first (with_object of.now ident.now (declarations names.old)) ≡ Some fault) }
 {
@@ -71,7 +71,7 @@ pub fn declare_predicates(
     names: &mut Names,
     symbols: &[RawSymbol],
 ) -> Result<(), Fault>
-    ensures ok { OnOk result (with_predicates symbols.now (declarations names.old) ≡ fine (declarations names.new)) }
+    ensures ok { OnOk result (with_predicates symbols.now (declarations names.old) ≡ parsed (declarations names.new)) }
     ensures err { IfErr result (λ fault. ¬ (fault ≡ Fault.Memory) → first (with_predicates symbols.now (declarations names.old)) ≡ Some fault) }
 {
     for symbol in symbols {
@@ -81,7 +81,7 @@ pub fn declare_predicates(
 }
 
 fn declare_predicate(alloc: Global, names: &mut Names, symbol: &RawSymbol) -> Result<(), Fault>
-    ensures ok { OnOk result (with_predicate symbol.now (declarations names.old) ≡ fine (declarations names.new)) }
+    ensures ok { OnOk result (with_predicate symbol.now (declarations names.old) ≡ parsed (declarations names.new)) }
     ensures err { IfErr result (λ fault. ¬ (fault ≡ Fault.Memory) → first (with_predicate symbol.now (declarations names.old)) ≡ Some fault) }
 {
     let args = new_symbol(alloc, names, symbol)?;
@@ -105,7 +105,7 @@ fn is_symbol(names: &Names, name: &Name) -> bool
 
 // The types of the arguments of a predicate or function that isn't declared yet.
 fn new_symbol(alloc: Global, names: &Names, symbol: &RawSymbol) -> Result<List<Name>, Fault>
-    ensures ok { IfOk result (λ args. new_symbol (declarations names.now) symbol.now ≡ fine args) }
+    ensures ok { IfOk result (λ args. new_symbol (declarations names.now) symbol.now ≡ parsed args) }
     ensures new { OnOk result (is_symbol (declarations names.now) symbol.now.name.name ≡ false) }
     ensures err { IfErr result (λ fault. ¬ (fault ≡ Fault.Memory) → first (new_symbol (declarations names.now) symbol.now) ≡ Some fault) }
 {
@@ -117,7 +117,7 @@ fn new_symbol(alloc: Global, names: &Names, symbol: &RawSymbol) -> Result<List<N
 }
 
 fn arg_types(alloc: Global, names: &Names, groups: &[RawGroup]) -> Result<List<Name>, Fault>
-    ensures ok { IfOk result (λ types. arg_types (declarations names.now) groups.now ≡ fine types) }
+    ensures ok { IfOk result (λ types. arg_types (declarations names.now) groups.now ≡ parsed types) }
     ensures err { IfErr result (λ fault. ¬ (fault ≡ Fault.Memory) → first (arg_types (declarations names.now) groups.now) ≡ Some fault) }
 {
     let mut types = List::new(alloc);
@@ -159,7 +159,7 @@ pub fn declare_functions(
     names: &mut Names,
     groups: &[RawFunctions],
 ) -> Result<(), Fault>
-    ensures ok { OnOk result (with_functions groups.now (declarations names.old) ≡ fine (declarations names.new)) }
+    ensures ok { OnOk result (with_functions groups.now (declarations names.old) ≡ parsed (declarations names.new)) }
     ensures err { IfErr result (λ fault. ¬ (fault ≡ Fault.Memory) → first (with_functions groups.now (declarations names.old)) ≡ Some fault) }
 {
     for group in groups {
@@ -173,7 +173,7 @@ fn declare_function_group(
     names: &mut Names,
     group: &RawFunctions,
 ) -> Result<(), Fault>
-    ensures ok { OnOk result (with_function_group group.now (declarations names.old) ≡ fine (declarations names.new)) }
+    ensures ok { OnOk result (with_function_group group.now (declarations names.old) ≡ parsed (declarations names.new)) }
     ensures err { IfErr result (λ fault. ¬ (fault ≡ Fault.Memory) → first (with_function_group group.now (declarations names.old)) ≡ Some fault) }
 {
     declare_each_function(alloc, names, &group.gives, group.functions.as_slice())?;
@@ -186,7 +186,7 @@ fn declare_each_function(
     gives: &RawGives,
     symbols: &[RawSymbol],
 ) -> Result<(), Fault>
-    ensures ok { OnOk result (in_turn (with_function gives.now) symbols.now (declarations names.old) ≡ fine (declarations names.new)) }
+    ensures ok { OnOk result (in_turn (with_function gives.now) symbols.now (declarations names.old) ≡ parsed (declarations names.new)) }
     ensures err { IfErr result (λ fault. ¬ (fault ≡ Fault.Memory) → first (in_turn (with_function gives.now) symbols.now (declarations names.old)) ≡ Some fault) }
 {
     for symbol in symbols {
@@ -201,7 +201,7 @@ fn declare_function(
     gives: &RawGives,
     symbol: &RawSymbol,
 ) -> Result<(), Fault>
-    ensures ok { OnOk result (with_function gives.now symbol.now (declarations names.old) ≡ fine (declarations names.new)) }
+    ensures ok { OnOk result (with_function gives.now symbol.now (declarations names.old) ≡ parsed (declarations names.new)) }
     ensures err { IfErr result (λ fault. ¬ (fault ≡ Fault.Memory) → first (with_function gives.now symbol.now (declarations names.old)) ≡ Some fault) }
 {
     let args = new_symbol(alloc, names, symbol)?;

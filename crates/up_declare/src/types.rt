@@ -1,5 +1,5 @@
 ghost use Rattle.std.specs.Prelude.{◌≡◌, [], ◌∷◌, ◌++◌, true, false, IfOk, IfErr, OnOk, get_or, set, slice_get, replicate, Some, None, if◌then◌else◌, length};
-ghost use Rattle.pddl_lex.specs.Verdicts.{fine, first};
+ghost use Rattle.pddl_lex.specs.Parses.{parsed, first};
 ghost use Rattle.up_phrase.specs.Named.{object, is_object};
 ghost use Rattle.up_phrase.specs.Scopes.{type_named};
 ghost use Rattle.up_declare.specs.Types.{types, parent_in, with_type, with_names, with_groups, with_parents, reaches, reason_at, fault_at, name_faults, type_faults};
@@ -18,7 +18,7 @@ use up_text::{Memory, Name};
 /// the first place of a type whose chain of parents doesn't reach `object`.
 #[tactic(auto, using(crate::proofs::Faults::faults))]
 pub fn declared_types(alloc: Global, groups: &[RawGroup]) -> Result<IndexMap<Name, Name>, Fault>
-    ensures ok { IfOk result (λ made. types groups.now ≡ fine made.entries) }
+    ensures ok { IfOk result (λ made. types groups.now ≡ parsed made.entries) }
     ensures err { IfErr result (λ fault. ¬ (fault ≡ Fault.Memory) → first (types groups.now) ≡ Some fault) }
 {
     let mut types = IndexMap::new(alloc);

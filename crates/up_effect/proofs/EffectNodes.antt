@@ -10,7 +10,7 @@ use Rattle.pddl_parse.specs.declared.raw.RawGroup.{RawGroup}
 use Rattle.pddl_parse.specs.declared.raw.RawTerm.{RawTerm}
 use Rattle.up_text.specs.declared.place.Place.{Place}
 use Rattle.up_tree.specs.declared.formula.Formula.{Formula, And, items_hidden-the_row-Formula-0}
-use Rattle.up_tree.specs.Simplify.{is_empty, is_always}
+use Rattle.up_tree.specs.Simplify.{is_empty, is_true_formula}
 use Rattle.up_phrase.specs.Declarations.{Declarations}
 use Rattle.up_phrase.specs.Lookups.{function_of}
 use Rattle.up_effect.specs.Effects.{Around, added, deleted, changed, undefined, simple, together, rows, each_rows, rows_for_all, rows_when}
@@ -54,7 +54,7 @@ module _ (names : Declarations) (a : Around) where
   unfolding rows
   rows-Undefine it place = refl
 
-pub always-And : (fs : List Formula) → is_always (And fs) ≡ is_empty fs
+pub always-And : (fs : List Formula) → is_true_formula (And fs) ≡ is_empty fs
 always-And fs = ap is_empty (items_hidden-the_row-Formula-0 fs)
 
 pub ruleset effect_nodes = (rows-And, rows-Forall, rows-When, rows-Add, rows-Delete, rows-Change, rows-Undefine)

@@ -3,7 +3,7 @@ use Rattle.std.proofs.Common.{◌≡◌, ◌+◌, List, [], ◌∷◌, ◌++◌,
 use Rattle.std.proofs.lemmas.List.{length-append}
 use Rattle.std.proofs.Math.Seq.{take-append_seam}
 use Rattle.std.specs.Prelude.{MatchOption}
-use Rattle.pddl_lex.specs.Verdicts.{fine, first, before}
+use Rattle.pddl_lex.specs.Parses.{parsed, first, before}
 use Rattle.pddl_parse.specs.declared.raw.RawEffect.{RawEffect}
 use Rattle.pddl_parse.specs.declared.raw.RawFormula.{RawFormula}
 use Rattle.pddl_parse.specs.declared.raw.RawGroup.{RawGroup}
@@ -26,23 +26,23 @@ same_around a b p v r w = λ i. record { parameters = p i; variables = v i; barr
 
 -- a `forall` whose variables have been entered
 pub for_all_on : (names : Declarations) (a inner : Around) (groups : List RawGroup) (body : RawEffect) (vars : Variables)
-    → entered_groups names a.barred groups a.variables ≡ fine vars → inner ≡ with_variables a vars
+    → entered_groups names a.barred groups a.variables ≡ parsed vars → inner ≡ with_variables a vars
     → rows_for_all names a groups body ≡ rows names inner body
 for_all_on names a inner groups body vars e is = rw (e, is) refl
 
 -- and left again
 pub for_all_left : (names : Declarations) (barred : List Name) (groups : List RawGroup) (vars more : Variables)
-    → entered_groups names barred groups vars ≡ fine more → take (length vars) more ≡ vars
+    → entered_groups names barred groups vars ≡ parsed more → take (length vars) more ≡ vars
 for_all_left names barred groups vars more e = leaves_entered names barred groups vars more e
 
 -- a `when` whose condition has been read
 pub when_on : (names : Declarations) (a : Around) (condition : RawFormula) (body : RawEffect) (f : Formula)
-    → formula names a.variables Plain condition ≡ fine f → rows_when names a condition body ≡ rows names (under a f) body
+    → formula names a.variables Plain condition ≡ parsed f → rows_when names a condition body ≡ rows names (under a f) body
 when_on names a condition body f e = rw e refl
 
 -- a simple effect whose row has been put behind those before it
-pub simple_on : (a : Around) (v : Checked Effect) (e : Effect) (old new : List Row) → v ≡ fine e → new ≡ old ++ row a e ∷ []
-    → before old (simple a v) ≡ fine new
+pub simple_on : (a : Around) (v : Checked Effect) (e : Effect) (old new : List Row) → v ≡ parsed e → new ≡ old ++ row a e ∷ []
+    → before old (simple a v) ≡ parsed new
 simple_on a v e old new is grown = rw (is, grown) refl
 
 pub simple_off : (a : Around) (v : Checked Effect) (fault : Fault) → first v ≡ Some fault → first (simple a v) ≡ Some fault

@@ -1,6 +1,6 @@
 -- Actions of raw actions.
 use Rattle.std.specs.Prelude.{List, [], map}
-use Rattle.pddl_lex.specs.Verdicts.{over, over_two}
+use Rattle.pddl_lex.specs.Parses.{over, over_two}
 use Rattle.pddl_parse.specs.declared.raw.RawAction.{RawAction}
 use Rattle.up_text.specs.declared.name.Name.{Name}
 use Rattle.up_tree.specs.declared.action.Action.{Action}

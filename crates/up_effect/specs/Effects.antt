@@ -1,6 +1,6 @@
 -- Rows of raw effects.
 use Rattle.std.specs.Prelude.{ℕ, if◌then◌else◌, List, [], ◌∷◌, ◌++◌, length, map, drop, Option, Some, None}
-use Rattle.pddl_lex.specs.Verdicts.{fine, faulty, over, over_two, followed}
+use Rattle.pddl_lex.specs.Parses.{parsed, rejected, over, over_two, followed}
 use Rattle.pddl_parse.specs.declared.raw.RawCall.{RawCall}
 use Rattle.pddl_parse.specs.declared.raw.RawChange.{RawChange}
 use Rattle.pddl_parse.specs.declared.raw.RawChange.TheVariants as raw_change
@@ -20,7 +20,7 @@ use Rattle.up_tree.specs.declared.formula.Formula.{Formula, And}
 use Rattle.up_tree.specs.declared.problem.Gives.{Gives}
 use Rattle.up_tree.specs.declared.problem.Gives.TheVariants as gives
 use Rattle.up_tree.specs.declared.term.Term.{Term}
-use Rattle.up_tree.specs.Simplify.{is_always, alone_or}
+use Rattle.up_tree.specs.Simplify.{is_true_formula, alone_or}
 use Rattle.up_phrase.specs.declared.fault.Fault.{Fault}
 use Rattle.up_phrase.specs.declared.names.Signature.{Signature}
 use Rattle.up_phrase.specs.declared.reason.Reason.TheVariants.{UnknownName, TypeMismatch}
@@ -58,7 +58,7 @@ with_barred a barred = record { parameters = a.parameters; variables = a.variabl
 
 -- the empty `and` is no condition
 abbrev pub whens_and : List Formula → Formula → List Formula
-whens_and fs f = if is_always f then fs else fs ++ f ∷ []
+whens_and fs f = if is_true_formula f then fs else fs ++ f ∷ []
 
 abbrev pub with_condition : Around → Formula → Around
 with_condition a f = record { parameters = a.parameters; variables = a.variables; barred = a.barred; whens = whens_and a.whens f }
@@ -93,12 +93,12 @@ abbrev pub object_assigned : Declarations → Variables → Name → RawCall →
 object_assigned names vars of it value declared = over_two (effect.Object it.name.name) (target_args names vars it declared) (term names vars Plain value (Some of))
 
 abbrev pub assigned_by : Declarations → Variables → RawCall → RawTerm → List Name → Gives → Checked Effect
-assigned_by names vars it value declared gives.Number = number_changed names vars change.Assign it value (fine declared)
-assigned_by names vars it value declared (gives.Object of) = object_assigned names vars of it value (fine declared)
+assigned_by names vars it value declared gives.Number = number_changed names vars change.Assign it value (parsed declared)
+assigned_by names vars it value declared (gives.Object of) = object_assigned names vars of it value (parsed declared)
 
 -- a number or an object is assigned, by what the function gives
 abbrev pub assigned : Declarations → Variables → RawCall → RawTerm → Option Signature → Checked Effect
-assigned names vars it value None = faulty (at it.name.place UnknownName it.name.name) []
+assigned names vars it value None = rejected (at it.name.place UnknownName it.name.name) []
 assigned names vars it value (Some function) = assigned_by names vars it value function.args function.gives
 
 -- the change of a number as the tree names it
@@ -126,9 +126,9 @@ kept_number place (gives.Object of) = []
 
 -- the value of a term is taken away
 abbrev pub undefined : Declarations → Variables → RawCall → Place → Option Signature → Checked Effect
-undefined names vars it place None = faulty (at it.name.place UnknownName it.name.name) []
+undefined names vars it place None = rejected (at it.name.place UnknownName it.name.name) []
 undefined names vars it place (Some function) =
-    over (effect.Undefine it.name.name) (followed (target_args names vars it (fine function.args)) (kept_number place function.gives))
+    over (effect.Undefine it.name.name) (followed (target_args names vars it (parsed function.args)) (kept_number place function.gives))
 
 -- the row of a simple effect, where it has no fault
 abbrev pub simple : Around → Checked Effect → Checked (List Row)
@@ -136,7 +136,7 @@ simple a v = over (λ e. row a e ∷ []) v
 
 -- of all parts, one after the other, in one list
 abbrev pub together : {A : Type 0} → List (Checked (List A)) → Checked (List A)
-together [] = fine []
+together [] = parsed []
 together (v ∷ vs) = over_two (λ xs ys. xs ++ ys) v (together vs)
 
 -- what is read with the variables of a list in scope too, none of which has a barred name

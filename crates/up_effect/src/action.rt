@@ -1,5 +1,5 @@
 ghost use Rattle.std.specs.Prelude.{◌≡◌, [], Some, IfOk, IfErr};
-ghost use Rattle.pddl_lex.specs.Verdicts.{fine, first};
+ghost use Rattle.pddl_lex.specs.Parses.{parsed, first};
 ghost use Rattle.up_phrase.specs.Declarations.{declarations};
 ghost use Rattle.up_phrase.specs.Scopes.{variables, barred, entered_groups};
 ghost use Rattle.up_effect.specs.Actions.{with_parameters, with_precondition, with_effect, action_of, action};
@@ -12,7 +12,7 @@ use up_text::{Box, List, Memory, Name};
 use up_tree::{Action, Formula, Row, Typed};
 
 fn parameters(alloc: Global, names: &Names, groups: &[RawGroup]) -> Result<Scope, Fault>
-    ensures ok { IfOk result (λ scope. entered_groups (declarations names.now) [] groups.now [] ≡ fine (variables scope)) }
+    ensures ok { IfOk result (λ scope. entered_groups (declarations names.now) [] groups.now [] ≡ parsed (variables scope)) }
     ensures err { IfErr result (λ fault. ¬ (fault ≡ Fault.Memory) → first (entered_groups (declarations names.now) [] groups.now []) ≡ Some fault) }
     ensures barred { IfOk result (λ scope. barred scope ≡ []) }
 {
@@ -30,7 +30,7 @@ fn parameters(alloc: Global, names: &Names, groups: &[RawGroup]) -> Result<Scope
 /// `undefined` after the faults of a target that is a number.
 #[tactic(auto, using(up_phrase::proofs::Steps::steps))]
 pub fn checked_action(alloc: Global, names: &Names, raw: &RawAction) -> Result<Action, Fault>
-    ensures ok { IfOk result (λ made. action (declarations names.now) raw.now ≡ fine made) }
+    ensures ok { IfOk result (λ made. action (declarations names.now) raw.now ≡ parsed made) }
     ensures err { IfErr result (λ fault. ¬ (fault ≡ Fault.Memory) → first (action (declarations names.now) raw.now) ≡ Some fault) }
 {
     let scope = parameters(alloc, names, raw.params.as_slice())?;
@@ -44,7 +44,7 @@ fn with_parameters(
     mut scope: Scope,
     raw: &RawAction,
 ) -> Result<Action, Fault>
-    ensures ok { IfOk result (λ made. with_parameters (declarations names.now) raw.now (barred scope) (variables scope) ≡ fine made) }
+    ensures ok { IfOk result (λ made. with_parameters (declarations names.now) raw.now (barred scope) (variables scope) ≡ parsed made) }
     ensures err { IfErr result (λ fault. ¬ (fault ≡ Fault.Memory) → first (with_parameters (declarations names.now) raw.now (barred scope) (variables scope)) ≡ Some fault) }
 {
     match boxed_formula(alloc, names, &mut scope, Setting::Plain, &raw.pre) {
@@ -61,7 +61,7 @@ fn with_precondition(
     pre: Box<Formula>,
     raw: &RawAction,
 ) -> Result<Action, Fault>
-    ensures ok { IfOk result (λ made. with_precondition (declarations names.now) raw.now (barred scope) (variables scope) pre ≡ fine made) }
+    ensures ok { IfOk result (λ made. with_precondition (declarations names.now) raw.now (barred scope) (variables scope) pre ≡ parsed made) }
     ensures err { IfErr result (λ fault. ¬ (fault ≡ Fault.Memory) → first (with_precondition (declarations names.now) raw.now (barred scope) (variables scope) pre) ≡ Some fault) }
 {
     match scope.since(alloc, 0) {
@@ -79,7 +79,7 @@ fn with_effect(
     params: List<Typed>,
     raw: &RawAction,
 ) -> Result<Action, Fault>
-    ensures ok { IfOk result (λ made. with_effect (declarations names.now) raw.now (barred scope) (variables scope) pre params ≡ fine made) }
+    ensures ok { IfOk result (λ made. with_effect (declarations names.now) raw.now (barred scope) (variables scope) pre params ≡ parsed made) }
     ensures err { IfErr result (λ fault. ¬ (fault ≡ Fault.Memory) → first (with_effect (declarations names.now) raw.now (barred scope) (variables scope) pre params) ≡ Some fault) }
 {
     match checked_rows(alloc, names, scope, &raw.effect) {

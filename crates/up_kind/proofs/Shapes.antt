@@ -13,7 +13,7 @@ use Rattle.up_kind.specs.declared.feature.Feature.TheVariants.{DisjunctiveCondit
 use Rattle.up_kind.specs.Features.{none, alone, either, over}
 use Rattle.up_tree.specs.declared.expr.Expr.{Number, Sum, Difference, Product, Quotient}
 use Rattle.up_tree.specs.declared.expr.Expr as expr
-use Rattle.up_tree.specs.Simplify.{is_empty, is_always}
+use Rattle.up_tree.specs.Simplify.{is_empty, is_true_formula}
 use Rattle.up_frac.specs.Fraction.{Fraction}
 use Rattle.up_kind.specs.Carried.{anywhere, in_row, is_fluent, has_fluent}
 use Rattle.up_kind.specs.Gathered.{of_node, of_not, of_condition}
@@ -64,7 +64,7 @@ of-Compare r a b = refl
 
 pub ruleset shapes = (of-And, of-Or, of-Not, of-Imply, of-Exists, of-Forall, of-Atom, of-Equal, of-Compare)
 
-pub always-And : (fs : List Formula) → is_always (And fs) ≡ is_empty fs
+pub always-And : (fs : List Formula) → is_true_formula (And fs) ≡ is_empty fs
 always-And fs = ap is_empty (items_hidden-the_row-Formula-0 fs)
 
 pub ruleset always = (always-And)

@@ -9,7 +9,7 @@ use Rattle.up_tree.specs.declared.problem.Function.{Function}
 use Rattle.up_tree.specs.declared.problem.Parts.{Parts}
 use Rattle.up_tree.specs.declared.term.Typed.{Typed}
 use Rattle.up_tree.specs.Nodes.{not, imply, exists, forall}
-use Rattle.up_tree.specs.Simplify.{is_empty, is_always}
+use Rattle.up_tree.specs.Simplify.{is_empty, is_true_formula}
 use Rattle.up_tree.specs.WellFormed.{top_type, formulas_of}
 use Rattle.up_text.specs.Names.{same_name}
 use Rattle.up_kind.specs.declared.feature.Feature.TheVariants.{FlatTyping, HierarchicalTyping, ActionParameters, NegativeConditions, DisjunctiveConditions, Equalities, ExistentialConditions, UniversalConditions, ConditionalEffects, ForallEffects, ObjectFluents, NumericFluents, NumericConditions, NumericEffects, ScaleEffects, Metric, TrajectoryConstraints, EffectOverlap, ObjectTermsUnderForall, PartialFluents}
@@ -46,7 +46,7 @@ of_variables r =
     either (alone_if (flip (is_empty r.vars)) ForallEffects) (alone_if (flip (is_empty r.vars) && touches_objects r.effect) ObjectTermsUnderForall)
 
 unfoldable pub of_row : Row → FeatureSet
-of_row r = either (alone_if (flip (is_always r.when)) ConditionalEffects) (either (of_variables r) (either (of_effect r.effect) (of_condition r.when)))
+of_row r = either (alone_if (flip (is_true_formula r.when)) ConditionalEffects) (either (of_variables r) (either (of_effect r.effect) (of_condition r.when)))
 
 unfoldable pub of_action : Parts → Action → FeatureSet
 of_action p a =

@@ -7,7 +7,7 @@ use Rattle.std.specs.Map.{lookup}
 use Rattle.indexmap.specs.IndexMap.{IndexMap, insert_entry}
 use Rattle.indexmap.proofs.CallerLemmas.{insert_entry-new}
 use Rattle.up_text.specs.Names.{same_name}
-use Rattle.pddl_lex.specs.Verdicts.{fine, faulty, first, behind}
+use Rattle.pddl_lex.specs.Parses.{parsed, rejected, first, behind}
 use Rattle.pddl_parse.specs.declared.raw.Ident.{Ident}
 use Rattle.pddl_parse.specs.declared.raw.RawGroup.{RawGroup}
 use Rattle.up_text.specs.declared.name.Name.{Name}
@@ -46,7 +46,7 @@ entered_off barred of items index vars x within is taken = rw (drop_more items i
 
 -- one more group
 pub groups_on : (names : Declarations) (barred : List Name) (groups : List RawGroup) (index : ℕ) (vars more : Variables) (g : RawGroup)
-    → index < length groups → g ≡ get_or groups index g → entered barred (type_named g.of) g.names vars ≡ fine more → type_fault names g.of ≡ []
+    → index < length groups → g ≡ get_or groups index g → entered barred (type_named g.of) g.names vars ≡ parsed more → type_fault names g.of ≡ []
     → entered_groups names barred (drop index groups) vars ≡ entered_groups names barred (drop (index + 1) groups) more
 groups_on names barred groups index vars more g within is e known = rw (drop_more groups index g within, ← is, e, known) refl
 
@@ -57,7 +57,7 @@ groups_off names barred groups index vars g fault within is e =
     rw (drop_more groups index g within, ← is) (first_after (entered barred (type_named g.of) g.names vars) _ fault e)
 
 pub type_off : (names : Declarations) (barred : List Name) (groups : List RawGroup) (index : ℕ) (vars more : Variables) (g : RawGroup) (fault : Fault)
-    → index < length groups → g ≡ get_or groups index g → entered barred (type_named g.of) g.names vars ≡ fine more → type_fault names g.of ≡ fault ∷ []
+    → index < length groups → g ≡ get_or groups index g → entered barred (type_named g.of) g.names vars ≡ parsed more → type_fault names g.of ≡ fault ∷ []
     → first (entered_groups names barred (drop index groups) vars) ≡ Some fault
 type_off names barred groups index vars more g fault within is e unknown = rw (drop_more groups index g within, ← is, e, unknown) refl
 
@@ -66,44 +66,44 @@ pub record Extends (vars more : Variables) : Type 0 where
   pub rest : Variables
   pub is : more ≡ vars ++ rest
 
-pub same_fine : (vars more : Variables) (v : Checked Variables) → v ≡ fine vars → v ≡ fine more → more ≡ vars
-same_fine vars more v is e = cc
+pub same_parsed : (vars more : Variables) (v : Checked Variables) → v ≡ parsed vars → v ≡ parsed more → more ≡ vars
+same_parsed vars more v is e = cc
 
-pub behind_fine : (faults : List Fault) (v : Checked Variables) (more : Variables) → behind faults v ≡ fine more → v ≡ fine more
-behind_fine [] v more e = e
-behind_fine (f ∷ fs) v more e = cc
+pub behind_parsed : (faults : List Fault) (v : Checked Variables) (more : Variables) → behind faults v ≡ parsed more → v ≡ parsed more
+behind_parsed [] v more e = e
+behind_parsed (f ∷ fs) v more e = cc
 
 pub joined : (vars more most : Variables) → Extends vars more → Extends more most → Extends vars most
 joined vars more most a b =
     record { rest = a.rest ++ b.rest; is = b.is ∙ ap (λ vs. vs ++ b.rest) a.is ∙ append_assoc vars a.rest b.rest }
 
-pub entered_extends : (barred : List Name) (of : Name) (items : List Ident) (vars more : Variables) → entered barred of items vars ≡ fine more → Extends vars more
-entered_extends barred of [] vars more e = record { rest = []; is = same_fine vars more (entered barred of [] vars) refl e ∙ sym (append-nil vars) }
+pub entered_extends : (barred : List Name) (of : Name) (items : List Ident) (vars more : Variables) → entered barred of items vars ≡ parsed more → Extends vars more
+entered_extends barred of [] vars more e = record { rest = []; is = same_parsed vars more (entered barred of [] vars) refl e ∙ sym (append-nil vars) }
 entered_extends barred of (x ∷ others) vars more e =
-    let on : entered barred of others (vars ++ (x.name, of) ∷ []) ≡ fine more → Extends vars more =
+    let on : entered barred of others (vars ++ (x.name, of) ∷ []) ≡ parsed more → Extends vars more =
     λ e. joined vars (vars ++ (x.name, of) ∷ []) more (record { rest = (x.name, of) ∷ []; is = refl })
     (entered_extends barred of others (vars ++ (x.name, of) ∷ []) more e) in
-    elim (is_taken barred vars x.name) as (λ t. (if t then faulty (at x.place Duplicate x.name) [] else entered barred of others (vars ++ (x.name, of) ∷ [])) ≡ fine more → Extends vars more) [
+    elim (is_taken barred vars x.name) as (λ t. (if t then rejected (at x.place Duplicate x.name) [] else entered barred of others (vars ++ (x.name, of) ∷ [])) ≡ parsed more → Extends vars more) [
       | true ↦ λ e. cc
       | false ↦ on
     ] e
 
 pub group_extends : (names : Declarations) (barred : List Name) (others : List RawGroup) (faults : List Fault) (vars most : Variables) (v : Checked Variables)
-    → ((more : Variables) → v ≡ fine more → Extends vars more)
-    → ((more : Variables) → entered_groups names barred others more ≡ fine most → Extends more most)
-    → after v (λ more. behind faults (entered_groups names barred others more)) ≡ fine most → Extends vars most
-group_extends names barred others faults vars most (fine more) here on e =
-    joined vars more most (here more refl) (on more (behind_fine faults (entered_groups names barred others more) most e))
-group_extends names barred others faults vars most (faulty f fs) here on e = cc
+    → ((more : Variables) → v ≡ parsed more → Extends vars more)
+    → ((more : Variables) → entered_groups names barred others more ≡ parsed most → Extends more most)
+    → after v (λ more. behind faults (entered_groups names barred others more)) ≡ parsed most → Extends vars most
+group_extends names barred others faults vars most (parsed more) here on e =
+    joined vars more most (here more refl) (on more (behind_parsed faults (entered_groups names barred others more) most e))
+group_extends names barred others faults vars most (rejected f fs) here on e = cc
 
-pub groups_extend : (names : Declarations) (barred : List Name) (groups : List RawGroup) (vars most : Variables) → entered_groups names barred groups vars ≡ fine most
+pub groups_extend : (names : Declarations) (barred : List Name) (groups : List RawGroup) (vars most : Variables) → entered_groups names barred groups vars ≡ parsed most
     → Extends vars most
-groups_extend names barred [] vars most e = record { rest = []; is = same_fine vars most (entered_groups names barred [] vars) refl e ∙ sym (append-nil vars) }
+groups_extend names barred [] vars most e = record { rest = []; is = same_parsed vars most (entered_groups names barred [] vars) refl e ∙ sym (append-nil vars) }
 groups_extend names barred (g ∷ others) vars most e =
     group_extends names barred others (type_fault names g.of) vars most (entered barred (type_named g.of) g.names vars)
     (λ more. entered_extends barred (type_named g.of) g.names vars more) (λ more. groups_extend names barred others more most) e
 
-pub leaves_entered : (names : Declarations) (barred : List Name) (groups : List RawGroup) (vars most : Variables) → entered_groups names barred groups vars ≡ fine most
+pub leaves_entered : (names : Declarations) (barred : List Name) (groups : List RawGroup) (vars most : Variables) → entered_groups names barred groups vars ≡ parsed most
     → take (length vars) most ≡ vars
 leaves_entered names barred groups vars most e =
     let grown : Extends vars most = groups_extend names barred groups vars most e in

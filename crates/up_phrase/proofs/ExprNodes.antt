@@ -2,7 +2,7 @@
 use Rattle.std.proofs.Common.{◌≡◌, List, [], ◌∷◌, map, refl, ap, ◌∙◌}
 use Rattle.up_frac.specs.declared.frac.Frac.{Frac}
 use Rattle.up_text.specs.declared.place.Place.{Place}
-use Rattle.pddl_lex.specs.Verdicts.{fine, faulty, over, all}
+use Rattle.pddl_lex.specs.Parses.{parsed, rejected, over, all}
 use Rattle.pddl_parse.specs.declared.raw.Ident.{Ident}
 use Rattle.pddl_parse.specs.declared.raw.Operator.{Operator}
 use Rattle.pddl_parse.specs.declared.raw.RawTerm.{RawTerm, Row_of-RawTerm, end_of-RawTerm, more_of-RawTerm, items-the_row-RawTerm, items_hidden-the_row-RawTerm-0}
@@ -23,11 +23,11 @@ module _ (names : Declarations) (vars : Variables) (s : Setting) where
   unfolding expr
   expr-Name it = refl
 
-  pub expr-Variable : (it : Ident) → expr names vars s (form.Variable it) ≡ faulty (no_number it (variable_type vars it.name)) []
+  pub expr-Variable : (it : Ident) → expr names vars s (form.Variable it) ≡ rejected (no_number it (variable_type vars it.name)) []
   unfolding expr
   expr-Variable it = refl
 
-  pub expr-Number : (place : Place) (n : Frac) → expr names vars s (form.Number place n) ≡ fine (Number n)
+  pub expr-Number : (place : Place) (n : Frac) → expr names vars s (form.Number place n) ≡ parsed (Number n)
   unfolding expr
   expr-Number place n = refl
 

@@ -2,7 +2,7 @@
 use Rattle.std.proofs.Common.{◌≡◌, true, false, List, ◌∷◌, map, refl, ap, ◌∙◌}
 use Rattle.up_frac.specs.declared.frac.Frac.{Frac}
 use Rattle.up_text.specs.declared.place.Place.{Place}
-use Rattle.pddl_lex.specs.Verdicts.{over, over_two, all}
+use Rattle.pddl_lex.specs.Parses.{over, over_two, all}
 use Rattle.pddl_parse.specs.declared.raw.Ident.{Ident}
 use Rattle.pddl_parse.specs.declared.raw.Operator.{Operator}
 use Rattle.pddl_parse.specs.declared.raw.Relation.{Relation}

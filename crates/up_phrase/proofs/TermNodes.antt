@@ -3,7 +3,7 @@ use Rattle.std.proofs.Common.{◌≡◌, List, [], ◌∷◌, map, Option, Some,
 use Rattle.up_text.specs.declared.name.Name.{Name}
 use Rattle.up_text.specs.declared.place.Place.{Place}
 use Rattle.up_frac.specs.declared.frac.Frac.{Frac}
-use Rattle.pddl_lex.specs.Verdicts.{faulty, first, over}
+use Rattle.pddl_lex.specs.Parses.{rejected, first, over}
 use Rattle.pddl_parse.specs.declared.raw.Ident.{Ident}
 use Rattle.pddl_parse.specs.declared.raw.Operator.{Operator}
 use Rattle.pddl_parse.specs.declared.raw.RawTerm.{RawTerm, Row_of-RawTerm, end_of-RawTerm, more_of-RawTerm, items-the_row-RawTerm, items_hidden-the_row-RawTerm-0}
@@ -29,12 +29,12 @@ module _ (names : Declarations) (vars : Variables) (s : Setting) where
   unfolding term
   term-Variable it due = refl
 
-  pub term-Number : (place : Place) (n : Frac) (due : Option Name) → term names vars s (form.Number place n) due ≡ faulty (bare place TypeMismatch) []
+  pub term-Number : (place : Place) (n : Frac) (due : Option Name) → term names vars s (form.Number place n) due ≡ rejected (bare place TypeMismatch) []
   unfolding term
   term-Number place n due = refl
 
   pub term-Arithmetic : (place : Place) (op : Operator) (args : List RawTerm) (due : Option Name)
-      → term names vars s (form.Arithmetic place op args) due ≡ faulty (bare place TypeMismatch) []
+      → term names vars s (form.Arithmetic place op args) due ≡ rejected (bare place TypeMismatch) []
   unfolding term
   term-Arithmetic place op args due = refl
 

@@ -2,7 +2,7 @@
 use Rattle.std.specs.Prelude.{Bool, true, false, not as negated, if◌then◌else◌, List, [], ◌∷◌, length, map, drop, Option, Some, None}
 use Rattle.up_text.specs.declared.name.Name.{Name}
 use Rattle.up_text.specs.declared.place.Place.{Place}
-use Rattle.pddl_lex.specs.Verdicts.{fine, faulty, over, over_two, all}
+use Rattle.pddl_lex.specs.Parses.{parsed, rejected, over, over_two, all}
 use Rattle.pddl_parse.specs.declared.raw.Ident.{Ident}
 use Rattle.pddl_parse.specs.declared.raw.Relation as raw_relation
 use Rattle.pddl_parse.specs.declared.raw.Relation.TheVariants as stated
@@ -33,8 +33,8 @@ use Rattle.up_phrase.specs.Walks.{Checked, after}
 
 -- the types of a predicate's arguments
 abbrev pub predicate : Ident → Option (List Name) → Checked (List Name)
-predicate p None = faulty (at p.place UnknownName p.name) []
-predicate p (Some args) = fine args
+predicate p None = rejected (at p.place UnknownName p.name) []
+predicate p (Some args) = parsed args
 
 -- the arguments of an atom
 abbrev pub atom_args : Declarations → Variables → Setting → Place → Ident → List RawTerm → Checked (List Term)
@@ -81,7 +81,7 @@ comparison names vars s r left right = over_two (λ a b. Compare (relation_of r)
 -- a comparison of numbers, of which a constraint holds none
 abbrev pub compared : Declarations → Variables → Setting → Place → raw_relation.Relation → RawTerm → RawTerm → Checked Formula
 compared names vars setting.Plain place r left right = comparison names vars setting.Plain r left right
-compared names vars setting.Constraint place r left right = faulty (bare place LeftOut) []
+compared names vars setting.Constraint place r left right = rejected (bare place LeftOut) []
 compared names vars setting.Metric place r left right = comparison names vars setting.Metric r left right
 
 abbrev pub related : Declarations → Variables → Setting → Place → raw_relation.Relation → RawTerm → RawTerm → Checked Formula

@@ -4,7 +4,7 @@ use Rattle.std.specs.Option.{option_map_or}
 use Rattle.up_frac.specs.Arithmetic.{whole}
 use Rattle.up_text.specs.declared.name.Name.{Name}
 use Rattle.up_text.specs.declared.place.Place.{Place}
-use Rattle.pddl_lex.specs.Verdicts.{fine, faulty, over, all}
+use Rattle.pddl_lex.specs.Parses.{parsed, rejected, over, all}
 use Rattle.pddl_parse.specs.declared.raw.Ident.{Ident}
 use Rattle.pddl_parse.specs.declared.raw.Operator.{Operator}
 use Rattle.pddl_parse.specs.declared.raw.Operator.TheVariants as operator
@@ -32,17 +32,17 @@ no_number it (Some of) = at it.place TypeMismatch it.name
 
 -- the types of the arguments of a function that gives this, where a number is due
 abbrev pub number_giver : Ident → List Name → Gives → Checked (List Name)
-number_giver f args gives.Number = fine args
-number_giver f args (gives.Object of) = faulty (at f.place TypeMismatch f.name) []
+number_giver f args gives.Number = parsed args
+number_giver f args (gives.Object of) = rejected (at f.place TypeMismatch f.name) []
 
 abbrev pub numeric_function : Ident → Option Signature → Checked (List Name)
-numeric_function f None = faulty (at f.place UnknownName f.name) []
+numeric_function f None = rejected (at f.place UnknownName f.name) []
 numeric_function f (Some function) = number_giver f function.args function.gives
 
 -- a bare name where a number is due: in a metric it is a function without arguments
 abbrev pub bare_name : Declarations → Setting → Ident → Checked Expr
-bare_name names setting.Plain it = faulty (no_number it (type_of names it.name)) []
-bare_name names setting.Constraint it = faulty (no_number it (type_of names it.name)) []
+bare_name names setting.Plain it = rejected (no_number it (type_of names it.name)) []
+bare_name names setting.Constraint it = rejected (no_number it (type_of names it.name)) []
 bare_name names setting.Metric it = over (λ ts. Fluent it.name ts) (applied it.place it.name (numeric_function it (function_of names it.name)) [])
 
 abbrev pub binary : Operator → Expr → Expr → Expr
@@ -87,13 +87,13 @@ negative e = Difference (Number (whole (pos 0))) e
 
 -- operands under the operator of a bracket
 abbrev pub arithmetic : Operator → Place → List Expr → Checked Expr
-arithmetic op place es = option_map_or (λ e. fine (if is_negation op (length es) then negative e else e)) (paired op es) (faulty (bare place Expected) [])
+arithmetic op place es = option_map_or (λ e. parsed (if is_negation op (length es) then negative e else e)) (paired op es) (rejected (bare place Expected) [])
 
 unfoldable mutual
   pub expr : Declarations → Variables → Setting → RawTerm → Checked Expr
   expr names vars s (form.Name it) = bare_name names s it
-  expr names vars s (form.Variable it) = faulty (no_number it (variable_type vars it.name)) []
-  expr names vars s (form.Number place n) = fine (Number n)
+  expr names vars s (form.Variable it) = rejected (no_number it (variable_type vars it.name)) []
+  expr names vars s (form.Number place n) = parsed (Number n)
   expr names vars s (form.Call' place f n args) =
       over (λ ts. Fluent f.name ts) (applied place f.name (numeric_function f (function_of names f.name)) (terms names vars s args))
   expr names vars s (form.Arithmetic' place op n operands) = after (all (exprs names vars s operands)) (arithmetic op place)

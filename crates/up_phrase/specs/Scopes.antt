@@ -3,7 +3,7 @@ use Rattle.std.specs.Prelude.{Bool, ◌||◌, List, [], ◌∷◌, ◌++◌, Opt
 use Rattle.std.specs.List.{list_any}
 use Rattle.std.specs.Map.{lookup}
 use Rattle.std.specs.Option.{option_map_or}
-use Rattle.pddl_lex.specs.Verdicts.{fine, faulty, behind}
+use Rattle.pddl_lex.specs.Parses.{parsed, rejected, behind}
 use Rattle.pddl_parse.specs.declared.raw.Ident.{Ident}
 use Rattle.pddl_parse.specs.declared.raw.RawGroup.{RawGroup}
 use Rattle.up_text.specs.declared.name.Name.{Name}
@@ -45,9 +45,9 @@ is_taken barred vars name = is_some (variable_type vars name) || list_any (same_
 
 -- variables of one type, entered from left to right
 abbrev pub entered : List Name → Name → List Ident → Variables → Checked Variables
-entered barred of [] vars = fine vars
+entered barred of [] vars = parsed vars
 entered barred of (it ∷ others) vars =
-    if is_taken barred vars it.name then faulty (at it.place Duplicate it.name) [] else entered barred of others (vars ++ (it.name, of) ∷ [])
+    if is_taken barred vars it.name then rejected (at it.place Duplicate it.name) [] else entered barred of others (vars ++ (it.name, of) ∷ [])
 
 -- the type that is stated, or `object`
 abbrev pub type_named : Option Ident → Name
@@ -60,7 +60,7 @@ type_fault names (Some of) = unless (is_type names of.name) (at of.place Unknown
 
 -- a typed list, entered group by group: the faults of the variables of a group come before that of their type
 abbrev pub entered_groups : Declarations → List Name → List RawGroup → Variables → Checked Variables
-entered_groups names barred [] vars = fine vars
+entered_groups names barred [] vars = parsed vars
 entered_groups names barred (group ∷ others) vars =
     after (entered barred (type_named group.of) group.names vars) (λ more. behind (type_fault names group.of) (entered_groups names barred others more))
 

@@ -2,7 +2,7 @@
 use Rattle.std.specs.Prelude.{◌==◌, List, [], ◌∷◌, ◌++◌, length, Option, Some, None}
 use Rattle.up_text.specs.declared.name.Name.{Name}
 use Rattle.up_text.specs.declared.place.Place.{Place}
-use Rattle.pddl_lex.specs.Verdicts.{fine, faulty, over, all, behind}
+use Rattle.pddl_lex.specs.Parses.{parsed, rejected, over, all, behind}
 use Rattle.pddl_parse.specs.declared.raw.Ident.{Ident}
 use Rattle.pddl_parse.specs.declared.raw.RawTerm.{RawTerm, Row_of-RawTerm, end_of-RawTerm, more_of-RawTerm}
 use Rattle.pddl_parse.specs.declared.raw.RawTerm as form
@@ -22,8 +22,8 @@ use Rattle.up_phrase.specs.Walks.{Checked, after, unless}
 
 -- a name or variable of this type as a term, where an object of the type due is wanted
 abbrev pub of_type : Declarations → Ident → Term → Option Name → Option Name → Checked Term
-of_type names it term due None = faulty (at it.place UnknownName it.name) []
-of_type names it term due (Some of) = behind (unless (fits names of due) (at it.place TypeMismatch it.name)) (fine term)
+of_type names it term due None = rejected (at it.place UnknownName it.name) []
+of_type names it term due (Some of) = behind (unless (fits names of due) (at it.place TypeMismatch it.name)) (parsed term)
 
 -- the bracket of an object function where none may stand
 abbrev pub unadmitted : Setting → Place → Name → List Fault
@@ -33,12 +33,12 @@ unadmitted setting.Metric place name = at place MetricTerm name ∷ []
 
 -- the types of the arguments of a function that gives this, in a bracket where an object is wanted
 abbrev pub object_giver : Declarations → Setting → Place → Ident → Option Name → List Name → Gives → Checked (List Name)
-object_giver names s place f due args gives.Number = faulty (at f.place TypeMismatch f.name) []
+object_giver names s place f due args gives.Number = rejected (at f.place TypeMismatch f.name) []
 object_giver names s place f due args (gives.Object of) =
-    behind (unadmitted s place f.name ++ unless (fits names of due) (at place TypeMismatch f.name)) (fine args)
+    behind (unadmitted s place f.name ++ unless (fits names of due) (at place TypeMismatch f.name)) (parsed args)
 
 abbrev pub object_function : Declarations → Setting → Place → Ident → Option Name → Option Signature → Checked (List Name)
-object_function names s place f due None = faulty (at f.place UnknownName f.name) []
+object_function names s place f due None = rejected (at f.place UnknownName f.name) []
 object_function names s place f due (Some function) = object_giver names s place f due function.args function.gives
 
 -- each argument where an object of its declared type is due
@@ -59,10 +59,10 @@ unfoldable mutual
   pub term : Declarations → Variables → Setting → RawTerm → Option Name → Checked Term
   term names vars s (form.Name it) due = of_type names it (Object it.name) due (type_of names it.name)
   term names vars s (form.Variable it) due = of_type names it (Var it.name) due (variable_type vars it.name)
-  term names vars s (form.Number place n) due = faulty (bare place TypeMismatch) []
+  term names vars s (form.Number place n) due = rejected (bare place TypeMismatch) []
   term names vars s (form.Call' place f n args) due =
       over (λ ts. Fluent f.name ts) (applied place f.name (object_function names s place f due (function_of names f.name)) (terms names vars s args))
-  term names vars s (form.Arithmetic' place op n args) due = faulty (bare place TypeMismatch) []
+  term names vars s (form.Arithmetic' place op n args) due = rejected (bare place TypeMismatch) []
 
   pub terms : Declarations → Variables → Setting → {n : _} → Row_of-RawTerm n → List (Option Name → Checked Term)
   terms names vars s end_of-RawTerm = []

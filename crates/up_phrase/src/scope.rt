@@ -1,6 +1,6 @@
 ghost use Rattle.std.specs.Prelude.{◌≡◌, ◌∷◌, [], ◌++◌, Some, None, IfOk, IfErr, OnOk, length, map, flat_map, take, drop};
 ghost use Rattle.std.specs.Option.{option_copied};
-ghost use Rattle.pddl_lex.specs.Verdicts.{fine, first};
+ghost use Rattle.pddl_lex.specs.Parses.{parsed, first};
 ghost use Rattle.up_phrase.specs.Barred.{names_of, binds, each_once};
 ghost use Rattle.up_phrase.specs.Declarations.{declarations};
 ghost use Rattle.up_phrase.specs.Scopes.{variables, barred, variable_type, barred_to, is_taken, entered, entered_groups, type_named, type_fault, typed};
@@ -88,7 +88,7 @@ impl Scope {
         binder: Binder,
         groups: &[RawGroup],
     ) -> Result<(), Fault>
-        ensures ok { OnOk result (entered_groups (declarations names.now) (barred_to binder (barred self.old)) groups.now (variables self.old) ≡ fine (variables self.new)) }
+        ensures ok { OnOk result (entered_groups (declarations names.now) (barred_to binder (barred self.old)) groups.now (variables self.old) ≡ parsed (variables self.new)) }
         ensures err { IfErr result (λ fault. ¬ (fault ≡ Fault.Memory) →
             first (entered_groups (declarations names.now) (barred_to binder (barred self.old)) groups.now (variables self.old)) ≡ Some fault) }
         ensures barred { barred self.new ≡ barred self.old }
@@ -107,7 +107,7 @@ impl Scope {
         of: &Option<Ident>,
         group: &[Ident],
     ) -> Result<(), Fault>
-        ensures ok { OnOk result (entered (barred_to binder (barred self.old)) (type_named of.now) group.now (variables self.old) ≡ fine (variables self.new)) }
+        ensures ok { OnOk result (entered (barred_to binder (barred self.old)) (type_named of.now) group.now (variables self.old) ≡ parsed (variables self.new)) }
         ensures err { IfErr result (λ fault. ¬ (fault ≡ Fault.Memory) →
             first (entered (barred_to binder (barred self.old)) (type_named of.now) group.now (variables self.old)) ≡ Some fault) }
         ensures barred { barred self.new ≡ barred self.old }

@@ -1,6 +1,6 @@
 ghost use Rattle.std.specs.Prelude.{◌≡◌, ◌==◌, [], ◌∷◌, ◌++◌, Some, IfOk, IfErr, map, length};
 ghost use Rattle.std.specs.Option.{option_copied};
-ghost use Rattle.pddl_lex.specs.Verdicts.{fine, first, all};
+ghost use Rattle.pddl_lex.specs.Parses.{parsed, first, all};
 ghost use Rattle.up_phrase.specs.Declarations.{declarations};
 ghost use Rattle.up_phrase.specs.Lookups.{type_of, function_of, fits};
 ghost use Rattle.up_phrase.specs.Named.{at};
@@ -59,7 +59,7 @@ pub fn same_count(
 
 #[tactic(auto, using(crate::proofs::Steps::steps))]
 fn object(alloc: Global, names: &Names, it: &Ident, due: Option<&Name>) -> Result<Term, Fault>
-    ensures ok { IfOk result (λ made. of_type (declarations names.now) it.now (Term.Object it.now.name) (option_copied due.entry) (type_of (declarations names.now) it.now.name) ≡ fine made) }
+    ensures ok { IfOk result (λ made. of_type (declarations names.now) it.now (Term.Object it.now.name) (option_copied due.entry) (type_of (declarations names.now) it.now.name) ≡ parsed made) }
     ensures err { IfErr result (λ fault. ¬ (fault ≡ Fault.Memory) →
         first (of_type (declarations names.now) it.now (Term.Object it.now.name) (option_copied due.entry) (type_of (declarations names.now) it.now.name)) ≡ Some fault) }
 {
@@ -81,7 +81,7 @@ fn variable(
     due: Option<&Name>,
 ) -> Result<Term, Fault>
     ensures ok { IfOk result (λ made.
-        of_type (declarations names.now) it.now (Term.Var it.now.name) (option_copied due.entry) (variable_type (variables scope.now) it.now.name) ≡ fine made) }
+        of_type (declarations names.now) it.now (Term.Var it.now.name) (option_copied due.entry) (variable_type (variables scope.now) it.now.name) ≡ parsed made) }
     ensures err { IfErr result (λ fault. ¬ (fault ≡ Fault.Memory) →
         first (of_type (declarations names.now) it.now (Term.Var it.now.name) (option_copied due.entry) (variable_type (variables scope.now) it.now.name)) ≡ Some fault) }
 {
@@ -121,7 +121,7 @@ pub fn checked_term(
     raw: &RawTerm,
     due: Option<&Name>,
 ) -> Result<Term, Fault>
-    ensures ok { IfOk result (λ made. term (declarations names.now) (variables scope.now) setting raw.now (option_copied due.entry) ≡ fine made) }
+    ensures ok { IfOk result (λ made. term (declarations names.now) (variables scope.now) setting raw.now (option_copied due.entry) ≡ parsed made) }
     ensures err { IfErr result (λ fault. ¬ (fault ≡ Fault.Memory) →
         first (term (declarations names.now) (variables scope.now) setting raw.now (option_copied due.entry)) ≡ Some fault) }
 {
@@ -150,7 +150,7 @@ fn object_function<'n>(
     f: &Ident,
     due: Option<&Name>,
 ) -> Result<&'n [Name], Fault>
-    ensures ok { IfOk result (λ args. object_function (declarations names.now) setting place f.now (option_copied due.entry) (function_of (declarations names.now) f.now.name) ≡ fine args.now) }
+    ensures ok { IfOk result (λ args. object_function (declarations names.now) setting place f.now (option_copied due.entry) (function_of (declarations names.now) f.now.name) ≡ parsed args.now) }
     ensures err { IfErr result (λ fault. ¬ (fault ≡ Fault.Memory) →
         first (object_function (declarations names.now) setting place f.now (option_copied due.entry) (function_of (declarations names.now) f.now.name)) ≡ Some fault) }
 {
@@ -178,7 +178,7 @@ pub fn checked_terms(
     declared: &[Name],
     args: &[RawTerm],
 ) -> Result<List<Term>, Fault>
-    ensures ok { IfOk result (λ made. all (each_due declared.now (map (term (declarations names.now) (variables scope.now) setting) args.now)) ≡ fine made) }
+    ensures ok { IfOk result (λ made. all (each_due declared.now (map (term (declarations names.now) (variables scope.now) setting) args.now)) ≡ parsed made) }
     ensures err { IfErr result (λ fault. ¬ (fault ≡ Fault.Memory) →
         first (all (each_due declared.now (map (term (declarations names.now) (variables scope.now) setting) args.now))) ≡ Some fault) }
 {

@@ -27,8 +27,8 @@ use Rattle.up_top.specs.Run.{AreOutputs, CompilesDone}
 use Rattle.up_top.specs.Says.{IsOf, PutsAnswer, ended}
 use Rattle.up_top.specs.Words.{command_of, word_at}
 use Rattle.up_run.specs.Due.{AChainFits, AreTakenAs, IsDue, refused_domain, refused_problem, refused_engine, unfit, done, IsDueAt, IsOrMemory, is_due, no_memory, WasDue}
-use Rattle.reading_laws.proofs.Faults.{one_fault}
-use Rattle.reading_laws.proofs.Spelled.{one_is_spelled, read_is_spelled, spelled_is_faultless}
+use Rattle.grammar_texts.proofs.Faults.{one_fault}
+use Rattle.grammar_texts.proofs.Spelled.{one_is_spelled, read_is_spelled, spelled_is_faultless}
 use Rattle.up_run.proofs.Headline.{third_read}
 
 -- ---- one status is due

@@ -18,7 +18,7 @@ use Rattle.up_top.specs.declared.command.Command.TheVariants as command
 use Rattle.up_top.specs.Cause.{IsCompile, HasThird}
 use Rattle.up_top.specs.Words.{word_at, command_of}
 use Rattle.up_top.specs.Run.{AreOutputs, CompilesDone, held_after}
-use Rattle.reading_laws.proofs.Spelled.{read_is_spelled}
+use Rattle.grammar_texts.proofs.Spelled.{read_is_spelled}
 use Rattle.up_run.specs.Headline.{Headline}
 use Rattle.up_run.proofs.Apart.{compile_apart}
 

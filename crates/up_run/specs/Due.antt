@@ -11,7 +11,7 @@ use Rattle.up_phrase.specs.declared.reason.Reason.{Reason}
 use Rattle.up_check.specs.declared.refusal.File.TheVariants.{Domain, Problem}
 use Rattle.up_check.specs.declared.refusal.ReadError.TheVariants.{Refused}
 use Rattle.up_check.specs.Passes.{AreShallow, FirstFault}
-use Rattle.reading_laws.specs.Spelled.{TextsSpell}
+use Rattle.grammar_texts.specs.Spelled.{TextsSpell}
 use Rattle.up_pipeline.specs.declared.engine.Engine.{Engine}
 use Rattle.up_pipeline.specs.declared.engine.EngineError.{EngineError}
 use Rattle.up_pipeline.specs.Engine.{engine_of}

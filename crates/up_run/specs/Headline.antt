@@ -2,7 +2,7 @@
 use Rattle.std.specs.Prelude.{◌≡◌, true, ℕ, List, Some, Ok}
 use Rattle.up_store.specs.Outside.{Files}
 use Rattle.up_tree.specs.declared.problem.Parts.{Parts}
-use Rattle.reading_laws.specs.Spelled.{TextsSpell}
+use Rattle.grammar_texts.specs.Spelled.{TextsSpell}
 use Rattle.up_kind.specs.Carried.{carries}
 use Rattle.up_kind.specs.Features.{has}
 use Rattle.up_pipeline.specs.declared.engine.Engine.{Engine}

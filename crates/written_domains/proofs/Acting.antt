@@ -7,7 +7,7 @@ use Rattle.up_text.specs.Lists.{Every, Member, Differ}
 use Rattle.up_tree.specs.declared.action.Action.{Action}
 use Rattle.up_tree.specs.declared.problem.Parts.{Parts}
 use Rattle.up_tree.specs.WellFormed.{IsAction}
-use Rattle.pddl_lex.specs.Verdicts.{fine, behind, over, over_two}
+use Rattle.pddl_lex.specs.Parses.{parsed, behind, over, over_two}
 use Rattle.pddl_parse.specs.declared.raw.RawAction.{RawAction}
 use Rattle.up_phrase.specs.declared.reason.Reason.TheVariants.{Duplicate}
 use Rattle.up_phrase.specs.Declarations.{Declarations}
@@ -17,8 +17,8 @@ use Rattle.up_check.specs.Domains.{second, actions}
 use Rattle.written_forms.specs.Raw.{IsEmpty, empty, first}
 use Rattle.written_forms.specs.RawEffects.{IsRawAction}
 use Rattle.written_files.specs.RawFiles.{AreEach}
-use Rattle.written_names.specs.Agree.{Agree, TypesWritten}
-use Rattle.written_names.proofs.Rows.{name_is, actions_are_named}
+use Rattle.roundtrip_names.specs.Agree.{Agree, TypesWritten}
+use Rattle.roundtrip_names.proofs.Rows.{name_is, actions_are_named}
 use Rattle.written_domains.proofs.Names.{still_new}
 
 -- none of the actions has one of these names
@@ -32,7 +32,7 @@ still_unnamed declared name (a ∷ acts) out new =
 
 module _ (names : Declarations) (p : Parts) (agree : Agree names p (take p.constants p.objects)) (typed : Bool) (all : TypesWritten typed p) where
   pub actions_read : (declared : List Name) (acts : List Action) (raws : List RawAction) → AreEach (IsRawAction typed) acts IsEmpty raws → Every (IsAction p) acts
-      → Unnamed declared acts → Differ (map (λ (a : Action). a.name) acts) → actions names declared raws ≡ fine acts
+      → Unnamed declared acts → Differ (map (λ (a : Action). a.name) acts) → actions names declared raws ≡ parsed acts
   actions_read declared [] _ empty are new differ = refl
   actions_read declared (a ∷ acts) _ (first raw raws so all_so) are new differ =
       ap (λ v. behind (second declared raw.name) (over_two (λ a more. a ∷ more) v (actions names (with_name declared raw.name.name) raws)))

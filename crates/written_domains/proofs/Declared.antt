@@ -13,7 +13,7 @@ use Rattle.up_tree.specs.declared.problem.Parts.{Parts}
 use Rattle.up_tree.specs.WellFormed.{IsType, gives_object, OfGives, IsWellFormed}
 use Rattle.up_kind.specs.declared.feature.Feature.TheVariants.{FlatTyping}
 use Rattle.up_kind.specs.Carried.{gives_an_object, carries}
-use Rattle.pddl_lex.specs.Verdicts.{fine}
+use Rattle.pddl_lex.specs.Parses.{parsed}
 use Rattle.pddl_parse.specs.declared.raw.RawFunctions.{RawFunctions}
 use Rattle.pddl_parse.specs.declared.raw.RawGives.TheVariants as stated
 use Rattle.pddl_parse.specs.declared.raw.DomainForm.{DomainForm}
@@ -24,15 +24,15 @@ use Rattle.up_phrase.specs.Walks.{after, in_turn}
 use Rattle.up_declare.specs.Types.{types}
 use Rattle.up_declare.specs.Declaring.{with_objects, with_predicates, with_function_group, with_functions}
 use Rattle.up_check.specs.Domains.{types_alone, declared}
-use Rattle.written_tokens.proofs.Named.{every-map, every-take}
+use Rattle.roundtrip_tokens.proofs.Named.{every-map, every-take}
 use Rattle.written_forms.specs.Raw.{empty}
 use Rattle.written_files.specs.RawFiles.{AreRawFunctions, no_functions, one_group, IsRawDomain}
-use Rattle.written_names.specs.Agree.{entry, signature_of, TypesWritten, and_objects, domain_names, with_each}
-use Rattle.written_names.specs.Symbols.{IsNew, and_predicates}
-use Rattle.written_names.proofs.Agreeing.{types_are_written}
-use Rattle.written_names.proofs.Declared.{objects_are_named}
-use Rattle.written_names.proofs.Listed.{types_are_named}
-use Rattle.written_names.proofs.Params.{predicates_are_named, functions_are_named, each_function_is_named}
+use Rattle.roundtrip_names.specs.Agree.{entry, signature_of, TypesWritten, and_objects, domain_names, with_each}
+use Rattle.roundtrip_names.specs.Symbols.{IsNew, and_predicates}
+use Rattle.roundtrip_names.proofs.Agreeing.{types_are_written}
+use Rattle.roundtrip_names.proofs.Declared.{objects_are_named}
+use Rattle.roundtrip_names.proofs.Listed.{types_are_named}
+use Rattle.roundtrip_names.proofs.Params.{predicates_are_named, functions_are_named, each_function_is_named}
 use Rattle.written_domains.proofs.Names.{every, every_mapped, map_twice, differ_front, differ_back, differ_apart, differ_taken, none_found}
 use Rattle.written_domains.proofs.Symbols.{each_symbol, own_groups}
 
@@ -62,7 +62,7 @@ all_numbers (d ∷ ds) none = by d.gives (all_numbers ds) none
 module _ (p : Parts) (typed : Bool) (all : TypesWritten typed p) (names : Declarations) (listed : names.types ≡ map entry p.types) where
   -- functions in one group, which give numbers
   together_read : (ds : List Function) (groups : List RawFunctions) → list_any gives_an_object ds ≡ false → AreRawFunctions typed false ds groups → Every (λ d. IsNew names d.name) ds
-      → Differ (map (λ (d : Function). d.name) ds) → Every (λ d. Every (IsType p) d.args) ds → with_functions groups names ≡ fine (with_each names ds)
+      → Differ (map (λ (d : Function). d.name) ds) → Every (λ d. Every (IsType p) d.args) ds → with_functions groups names ≡ parsed (with_each names ds)
   together_read [] _ none (no_functions _) new differ types = each_function_is_named p typed all [] [] names listed empty tt tt tt tt
   together_read (d ∷ ds) _ none (one_group _ _ symbols are) new differ types =
       ap (λ v. after v (in_turn with_function_group []))
@@ -71,14 +71,14 @@ module _ (p : Parts) (typed : Bool) (all : TypesWritten typed p) (names : Declar
       (every_mapped function_entry (λ e. IsNew names e.0) (d ∷ ds) new)
       (subst Differ (sym (map_twice function_entry (λ e. e.0) (d ∷ ds))) differ)
       (every_mapped function_entry (λ e. Every (IsType p) e.1) (d ∷ ds) types) tt)
-      ∙ ap (λ fs. fine (record { types = names.types; objects = names.objects; predicates = names.predicates; functions = names.functions ++ fs })) (all_numbers (d ∷ ds) none)
+      ∙ ap (λ fs. parsed (record { types = names.types; objects = names.objects; predicates = names.predicates; functions = names.functions ++ fs })) (all_numbers (d ∷ ds) none)
 
   functions_read : (ds : List Function) (groups : List RawFunctions) → AreRawFunctions typed (list_any gives_an_object ds) ds groups → Every (λ d. IsNew names d.name) ds
       → Differ (map (λ (d : Function). d.name) ds) → Every (λ d. Every (IsType p) d.args) ds → Every (λ d. OfGives p d.gives) ds
-      → with_functions groups names ≡ fine (with_each names ds)
+      → with_functions groups names ≡ parsed (with_each names ds)
   functions_read ds groups are new differ types known = by (list_any gives_an_object ds) refl are
     where
-      by : (b : Bool) → list_any gives_an_object ds ≡ b → AreRawFunctions typed b ds groups → with_functions groups names ≡ fine (with_each names ds)
+      by : (b : Bool) → list_any gives_an_object ds ≡ b → AreRawFunctions typed b ds groups → with_functions groups names ≡ parsed (with_each names ds)
       by true some are = each_function_is_named p typed all ds groups names listed (own_groups typed ds groups are) new differ types known
       by false none are = together_read ds groups none are new differ types
 
@@ -109,14 +109,14 @@ module _ (p : Parts) (well : IsWellFormed p) where
   all : TypesWritten typed p
   all = types_are_written p
 
-  constants_read : (form : DomainForm) → IsRawDomain p form → with_objects form.constants first_names ≡ fine more_names
+  constants_read : (form : DomainForm) → IsRawDomain p form → with_objects form.constants first_names ≡ parsed more_names
   constants_read form is =
       objects_are_named p typed all constants form.constants first_names refl is.constants
       (every (λ (o : Typed). type_of first_names o.name ≡ None) (λ o. refl) constants)
       (differ_taken (λ (o : Typed). o.name) p.constants p.objects well.objects.differ)
       (every-take (λ o. IsType p o.of) p.constants p.objects well.object_types)
 
-  predicates_read : (form : DomainForm) → IsRawDomain p form → with_predicates form.predicates more_names ≡ fine symbol_names
+  predicates_read : (form : DomainForm) → IsRawDomain p form → with_predicates form.predicates more_names ≡ parsed symbol_names
   predicates_read form is =
       predicates_are_named p typed all (map predicate_entry p.predicates) form.predicates more_names refl
       (each_symbol (λ (d : Predicate). d.name) (λ d. d.args) typed p.predicates form.predicates is.predicates)
@@ -132,13 +132,13 @@ module _ (p : Parts) (well : IsWellFormed p) where
       (λ d out. (none_found (λ (d : Predicate). d.name) (λ d. d.args) p.predicates d.name out, refl)) p.functions
       (differ_apart predicate_names function_names well.symbols.differ)
 
-  all_functions_read : (form : DomainForm) → IsRawDomain p form → with_functions form.functions symbol_names ≡ fine (domain_names p)
+  all_functions_read : (form : DomainForm) → IsRawDomain p form → with_functions form.functions symbol_names ≡ parsed (domain_names p)
   all_functions_read form is =
       functions_read p typed all symbol_names refl p.functions form.functions is.functions functions_new
       (differ_back predicate_names function_names well.symbols.differ)
       well.function_types well.value_types
 
-  pub declared_read : (form : DomainForm) → IsRawDomain p form → declared form ≡ fine (domain_names p)
+  pub declared_read : (form : DomainForm) → IsRawDomain p form → declared form ≡ parsed (domain_names p)
   declared_read form is =
       ap (λ v. after v (λ ts. after (with_objects form.constants (types_alone ts)) (λ names. after (with_predicates form.predicates names) (λ more. with_functions form.functions more))))
       (types_are_named p well form.types is.types)

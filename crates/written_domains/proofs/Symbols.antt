@@ -9,7 +9,7 @@ use Rattle.pddl_parse.specs.declared.raw.RawGives.{RawGives}
 use Rattle.up_declare.specs.Declaring.{given}
 use Rattle.written_forms.specs.Raw.{at, IsEmpty, empty, first}
 use Rattle.written_files.specs.RawFiles.{AreEach, numbered, IsRawSymbol, IsRawGives, gives_number, gives_object, AreRawFunctions, no_functions, more_functions}
-use Rattle.written_names.specs.Symbols.{IsSymbol, AreSymbols, own_group, AreOwnGroups}
+use Rattle.roundtrip_names.specs.Symbols.{IsSymbol, AreSymbols, own_group, AreOwnGroups}
 
 numbered_types : (k : ℕ) (args : List Name) → map (λ v. v.of) (numbered k args) ≡ args
 numbered_types k [] = refl

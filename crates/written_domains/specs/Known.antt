@@ -2,7 +2,7 @@
 use Rattle.std.specs.Prelude.{[]}
 use Rattle.up_tree.specs.declared.problem.Parts.{Parts}
 use Rattle.up_check.specs.Domains.{Known}
-use Rattle.written_names.specs.Agree.{domain_names}
+use Rattle.roundtrip_names.specs.Agree.{domain_names}
 
 -- what the domain of a problem declares, and its actions; the constraints are the problem's
 abbrev pub known_of_parts : Parts → Known

@@ -15,7 +15,7 @@ use Rattle.up_tree.specs.WellFormed.{AreVariables, IsPlain, IsConstraint, formul
 use Rattle.pddl_lex.specs.declared.tree.TokenKind.{TokenKind}
 use Rattle.pddl_lex.specs.declared.tree.TokenKind.TheVariants as kind
 use Rattle.pddl_lex.specs.declared.tree.Sexp.{Sexp, Group}
-use Rattle.pddl_lex.specs.Verdicts.{fine}
+use Rattle.pddl_lex.specs.Parses.{parsed}
 use Rattle.pddl_parse.specs.declared.raw.RawMetric.{RawMetric}
 use Rattle.pddl_parse.specs.declared.raw.RawFormula.{RawFormula}
 use Rattle.pddl_parse.specs.declared.raw.RawConstraint as raw
@@ -31,8 +31,8 @@ use Rattle.pddl_parse.specs.Starts.{metric, minimizes}
 use Rattle.pddl_parse.specs.Forms.{leaf}
 use Rattle.pddl_parse.proofs.Nodes.{constraint-Group, constraint_head-Leaf, is_empty-Group}
 use Rattle.pddl_parse.proofs.Read.{formula_read, term_read}
-use Rattle.written_tokens.specs.Tokens.{group, variables_tokens, expr_tokens, formula_tokens}
-use Rattle.written_tokens.specs.EffectTokens.{for_each_tokens, rule_tokens, constraint_tokens}
+use Rattle.roundtrip_tokens.specs.Tokens.{group, variables_tokens, expr_tokens, formula_tokens}
+use Rattle.roundtrip_tokens.specs.EffectTokens.{for_each_tokens, rule_tokens, constraint_tokens}
 use Rattle.written_forms.specs.Raw.{IsEmpty, AreRawGroups, IsRawFormula, IsRawExpr}
 use Rattle.written_forms.proofs.Trees.{rowed_as, Alone, alone, Pair, pair, alone_rowed, pair_rowed, Bracket, bracket, Led, led, led_rowed}
 use Rattle.written_forms.proofs.Names.{AllNamed, AreNamed}
@@ -73,7 +73,7 @@ each_made typed vars C place there _ (pair _ two (bracket at_vars trees (spell_g
 
 -- a constraint of which this is so, which isn't `()`
 pub data ReadsWhole (P : RawConstraint → Type 0) (tree : Sexp) : Type 0 where
-  reads_whole : (c : RawConstraint) → parse.whole_constraint tree ≡ fine c → P c → ReadsWhole P tree
+  reads_whole : (c : RawConstraint) → parse.whole_constraint tree ≡ parsed c → P c → ReadsWhole P tree
 
 all_made : (Cs : List RawConstraint → Type 0) (place there : Place) (rest : List Sexp) → ReadsAll parse.constraint Cs rest
     → ReadsWhole (IsRawAnd Cs) (Group place (leaf (kind.Word (codes "and")) there ∷ rest))
@@ -140,9 +140,9 @@ module _ (p : Parts) (names : AreNamed p) (objects_named : AllNamed p.objects) (
 
 -- trees that are read, as those of a section, as a metric
 pub data ReadsMetric (m : Metric) (trees : List Sexp) : Type 0 where
-  reads_metric : (r : RawMetric) → ((place : Place) → metric place trees ≡ fine r) → r.minimize ≡ m.minimize → IsRawExpr m.value r.value → ReadsMetric m trees
+  reads_metric : (r : RawMetric) → ((place : Place) → metric place trees ≡ parsed r) → r.minimize ≡ m.minimize → IsRawExpr m.value r.value → ReadsMetric m trees
 
-sense_read : (minimize : Bool) (there : Place) → minimizes (leaf (kind.Word (if minimize then codes "minimize" else codes "maximize")) there) ≡ fine minimize
+sense_read : (minimize : Bool) (there : Place) → minimizes (leaf (kind.Word (if minimize then codes "minimize" else codes "maximize")) there) ≡ parsed minimize
 unfolding is_word
 sense_read true there = refl
 sense_read false there = refl

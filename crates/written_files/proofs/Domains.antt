@@ -18,7 +18,7 @@ use Rattle.pddl_lex.specs.declared.tree.TokenKind.{TokenKind}
 use Rattle.pddl_lex.specs.declared.tree.TokenKind.TheVariants as kind
 use Rattle.pddl_lex.specs.declared.tree.Sexp.{Sexp, Group}
 use Rattle.pddl_lex.specs.Brackets.{Bracketed}
-use Rattle.pddl_lex.specs.Verdicts.{fine}
+use Rattle.pddl_lex.specs.Parses.{parsed}
 use Rattle.pddl_parse.specs.declared.raw.RawGroup.{RawGroup}
 use Rattle.pddl_parse.specs.declared.raw.RawSymbol.{RawSymbol}
 use Rattle.pddl_parse.specs.declared.raw.RawFunctions.{RawFunctions}
@@ -36,9 +36,9 @@ use Rattle.pddl_parse.specs.Brackets.{has_section}
 use Rattle.pddl_parse.specs.Texts.{title, with_section, with_sections, in_domain_text, domain, bare_domain}
 use Rattle.pddl_parse.specs.Forms.{leaf}
 use Rattle.pddl_parse.proofs.Nodes.{bracket-Group, keyword_of-Leaf, is_word-Leaf}
-use Rattle.written_tokens.specs.Tokens.{group, object_tokens}
-use Rattle.written_tokens.specs.EffectTokens.{action_tokens}
-use Rattle.written_tokens.specs.FileTokens.{section_tokens, define_tokens, requirements_tokens, predicate_tokens, function_tokens, domain_tokens_with, domain_tokens}
+use Rattle.roundtrip_tokens.specs.Tokens.{group, object_tokens}
+use Rattle.roundtrip_tokens.specs.EffectTokens.{action_tokens}
+use Rattle.roundtrip_tokens.specs.FileTokens.{section_tokens, define_tokens, requirements_tokens, predicate_tokens, function_tokens, domain_tokens_with, domain_tokens}
 use Rattle.written_forms.specs.Laws.{SpellsAction}
 use Rattle.written_forms.specs.Raw.{IsEmpty, empty, IsFirst, first, IsRawName, AreRawGroups, no_groups}
 use Rattle.written_forms.specs.RawEffects.{IsRawAction}
@@ -56,18 +56,18 @@ use Rattle.written_files.proofs.Sections.{NoneOf, none_behind, none_before, and_
 -- trees that are read as sections behind others, where none of those due stands yet, and bring a form of which `In`
 -- holds to one of which `Out` holds
 data Reads (due : List (List ℕ)) (In Out : DomainForm → Type 0) (trees : List Sexp) : Type 0 where
-  reads : (ss : List DomainSection) → ((before : List Sexp) → NoneOf due before → domain_sections before trees ≡ fine ss)
+  reads : (ss : List DomainSection) → ((before : List Sexp) → NoneOf due before → domain_sections before trees ≡ parsed ss)
       → ((form : DomainForm) → In form → Out (with_sections form ss)) → Reads due In Out trees
 
 section_read : (word : List ℕ) (k : DomainKey) → domain_key word ≡ Some k → (before : List Sexp) → (stands_once k && has_section word before) ≡ false
-    → (place there : Place) (rest : List Sexp) (s : DomainSection) → domain_body k place rest ≡ fine s
-    → domain_section before (Group place (leaf (kind.Keyword word) there ∷ rest)) ≡ fine s
+    → (place there : Place) (rest : List Sexp) (s : DomainSection) → domain_body k place rest ≡ parsed s
+    → domain_section before (Group place (leaf (kind.Keyword word) there ∷ rest)) ≡ parsed s
 section_read word k is before fresh place there rest s body =
     rw (bracket-Group (in_domain_section before) place (leaf (kind.Keyword word) there ∷ rest), keyword_of-Leaf, is, fresh) body
 
 -- one section more
 once : (word : List ℕ) (k : DomainKey) → domain_key word ≡ Some k → (due : List (List ℕ)) → Every (λ w. bytes_eq word w ≡ false) due
-    → (In Mid Out : DomainForm → Type 0) (place there : Place) (rest : List Sexp) (s : DomainSection) → ((at : Place) → domain_body k at rest ≡ fine s)
+    → (In Mid Out : DomainForm → Type 0) (place there : Place) (rest : List Sexp) (s : DomainSection) → ((at : Place) → domain_body k at rest ≡ parsed s)
     → ((form : DomainForm) → In form → Mid (with_section form s)) → (trees : List Sexp) → Reads due Mid Out trees
     → Reads (word ∷ due) In Out (Group place (leaf (kind.Keyword word) there ∷ rest) ∷ trees)
 once word k is due differ In Mid Out place there rest s body fills trees (reads ss so goes) =
@@ -100,7 +100,7 @@ record Filled (p : Parts) (T C : List RawGroup → Type 0) (S : List RawSymbol �
 
 -- trees that are read as actions, behind other sections
 data ReadsActions (typed : Bool) (actions : List Action) (trees : List Sexp) : Type 0 where
-  reads_actions : (acts : List RawAction) (ss : List DomainSection) → ((before : List Sexp) → domain_sections before trees ≡ fine ss)
+  reads_actions : (acts : List RawAction) (ss : List DomainSection) → ((before : List Sexp) → domain_sections before trees ≡ parsed ss)
       → ((form : DomainForm) → with_sections form ss ≡ record form { actions = form.actions ++ acts })
       → AreEach (IsRawAction typed) actions IsEmpty acts → ReadsActions typed actions trees
 
@@ -111,7 +111,7 @@ seven a b c d e f g = simp append_assoc
 module _ (p : Parts) (well : IsWellFormed p) (f : FeatureSet) where
   -- a bracket whose trees behind `:action` are read as the action
   data ReadsAction (typed : Bool) (a : Action) : Sexp → Type 0 where
-    reads_action : (place there : Place) (rest : List Sexp) (form : RawAction) → action place rest ≡ fine form → IsRawAction typed a form
+    reads_action : (place there : Place) (rest : List Sexp) (form : RawAction) → action place rest ≡ parsed form → IsRawAction typed a form
         → ReadsAction typed a (Group place (leaf (kind.Keyword (codes "action")) there ∷ rest))
 
   action_read : (typed : Bool) (a : Action) → IsName a.name × IsAction p a → TreeOf (action_tokens typed a) (ReadsAction typed a)
@@ -367,7 +367,7 @@ module _ (p : Parts) (well : IsWellFormed p) (f : FeatureSet) where
 
   -- a tree that is read as the domain
   data ReadsWhole : Sexp → Type 0 where
-    reads_whole : (tree : Sexp) (form : DomainForm) → domain (tree ∷ []) ≡ fine form → IsRawDomainWith f p form → ReadsWhole tree
+    reads_whole : (tree : Sexp) (form : DomainForm) → domain (tree ∷ []) ≡ parsed form → IsRawDomainWith f p form → ReadsWhole tree
 
   domain_read : TreeOf (domain_tokens_with f p) ReadsWhole
   domain_read =

@@ -7,10 +7,10 @@ use Rattle.pddl_lex.specs.declared.tree.Token.{Token}
 use Rattle.pddl_lex.specs.declared.tree.TokenKind.{TokenKind}
 use Rattle.pddl_lex.specs.declared.tree.TokenKind.TheVariants as kind
 use Rattle.pddl_lex.specs.declared.tree.Sexp.{Sexp, Group}
-use Rattle.pddl_lex.specs.Verdicts.{fine, all}
+use Rattle.pddl_lex.specs.Parses.{parsed, all}
 use Rattle.pddl_parse.specs.Shapes.{Read}
 use Rattle.pddl_parse.specs.Forms.{leaf}
-use Rattle.written_tokens.specs.Tokens.{group}
+use Rattle.roundtrip_tokens.specs.Tokens.{group}
 use Rattle.written_forms.specs.Raw.{IsEmpty, empty, IsFirst, first}
 use Rattle.written_forms.proofs.Trees.{kinds_of, Formed, Rowed, group_formed, none_rowed, first_rowed, Led, led, led_rowed}
 use Rattle.written_files.specs.RawFiles.{AreEach}
@@ -47,11 +47,11 @@ section_of word ks Q more tokens kinds =
 module _ {Y : Type 0} (read : Sexp → Read Y) where
   -- a tree that is read as something of which this is so
   pub data ReadsOne (P : Y → Type 0) (tree : Sexp) : Type 0 where
-    reads_one : (y : Y) → read tree ≡ fine y → P y → ReadsOne P tree
+    reads_one : (y : Y) → read tree ≡ parsed y → P y → ReadsOne P tree
 
   -- trees that are read as members of which this is so
   pub data ReadsAll (P : List Y → Type 0) (trees : List Sexp) : Type 0 where
-    reads_all : (ys : List Y) → all (map read trees) ≡ fine ys → P ys → ReadsAll P trees
+    reads_all : (ys : List Y) → all (map read trees) ≡ parsed ys → P ys → ReadsAll P trees
 
   more_read : (P : Y → Type 0) (Q : List Y → Type 0) (tree : Sexp) (trees : List Sexp) → ReadsOne P tree → ReadsAll Q trees → ReadsAll (IsFirst P Q) (tree ∷ trees)
   more_read P Q tree trees (reads_one y is so) (reads_all ys are all_so) = reads_all (y ∷ ys) (rw (is, are) refl) (first y ys so all_so)

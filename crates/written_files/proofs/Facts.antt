@@ -31,9 +31,9 @@ use Rattle.pddl_parse.specs.Starts.{is_same, initial, initial_value}
 use Rattle.pddl_parse.specs.Forms.{leaf, ident_at}
 use Rattle.pddl_parse.proofs.Nodes.{bracket-Group, is_word-Leaf, is_same-Leaf, initial_value-Leaf}
 use Rattle.pddl_parse.proofs.Read.{ident_read}
-use Rattle.written_tokens.specs.Tokens.{group}
-use Rattle.written_tokens.specs.FileTokens.{ground_tokens, fact_tokens, number_fact_tokens, value_fact_tokens}
-use Rattle.written_tokens.proofs.Named.{found_and, and_some}
+use Rattle.roundtrip_tokens.specs.Tokens.{group}
+use Rattle.roundtrip_tokens.specs.FileTokens.{ground_tokens, fact_tokens, number_fact_tokens, value_fact_tokens}
+use Rattle.roundtrip_tokens.proofs.Named.{found_and, and_some}
 use Rattle.written_forms.specs.Raw.{IsEmpty, IsRawName, at}
 use Rattle.written_forms.proofs.Trees.{group_formed, leaf_formed, Led, led, led_rowed, Pair, pair, pair_rowed}
 use Rattle.written_forms.proofs.Names.{word_is, name_of-name, found_named, AllNamed, AreNamed}

@@ -8,7 +8,7 @@ use Rattle.up_tree.specs.declared.term.Typed.{Typed}
 use Rattle.pddl_lex.specs.declared.tree.Sign.TheVariants as sign
 use Rattle.pddl_lex.specs.declared.tree.TokenKind.TheVariants as kind
 use Rattle.pddl_lex.specs.declared.tree.Sexp.{Sexp}
-use Rattle.pddl_lex.specs.Verdicts.{fine}
+use Rattle.pddl_lex.specs.Parses.{parsed}
 use Rattle.pddl_parse.specs.declared.raw.Ident.{Ident}
 use Rattle.pddl_parse.specs.declared.raw.RawGroup.{RawGroup}
 use Rattle.pddl_parse.specs.declared.typed.Item.TheVariants as item
@@ -16,7 +16,7 @@ use Rattle.pddl_parse.specs.TypedLists as lists
 use Rattle.pddl_parse.specs.TypedLists.{is_minus, ends_after, last_group, typed_list}
 use Rattle.pddl_parse.specs.Forms.{ident_at}
 use Rattle.pddl_parse.proofs.Read.{ident_read}
-use Rattle.written_tokens.specs.Tokens.{object_tokens}
+use Rattle.roundtrip_tokens.specs.Tokens.{object_tokens}
 use Rattle.written_forms.specs.Raw.{at, AreRawNames, no_names, more_names, AreRawGroups, no_groups, more_groups, one_group}
 use Rattle.written_forms.proofs.Trees.{none_rowed, rowed_as, Led, led, led_rowed}
 use Rattle.written_forms.proofs.Names.{word_is, AllNamed}
@@ -31,7 +31,7 @@ data ReadNames (entries : List Typed) (trees : List Sexp) : Type 0 where
 -- trees that are read as these entries
 data ReadEntries (typed : Bool) (entries : List Typed) (trees : List Sexp) : Type 0 where
   read_entries : (groups : List RawGroup) → ends_after false trees ≡ false
-      → ((place : Place) → lists.typed item.Name place trees [] false ≡ fine groups) → AreRawGroups typed entries groups → ReadEntries typed entries trees
+      → ((place : Place) → lists.typed item.Name place trees [] false ≡ parsed groups) → AreRawGroups typed entries groups → ReadEntries typed entries trees
 
 names_rowed : (entries : List Typed) → AllNamed entries → RowOf (flat_map (object_tokens false) entries) (ReadNames entries)
 unfolding is_minus
@@ -49,7 +49,7 @@ untyped_rowed : (entries : List Typed) → AllNamed entries → RowOf (flat_map 
 untyped_rowed [] all tokens kinds = none_rowed tokens kinds (ReadEntries false []) (read_entries [] refl (λ place. refl) (no_groups false))
 untyped_rowed (e ∷ entries) all tokens kinds = rowed_as (names_rowed (e ∷ entries) all tokens kinds) whole
   where
-    grouped : (names : List Ident) → AreRawNames (e ∷ entries) names → (place : Place) → last_group place names false ≡ fine (record { names = names; of = None } ∷ [])
+    grouped : (names : List Ident) → AreRawNames (e ∷ entries) names → (place : Place) → last_group place names false ≡ parsed (record { names = names; of = None } ∷ [])
     grouped _ (more_names _ _ ident idents is are) place = refl
 
     whole : (trees : List Sexp) → ReadNames (e ∷ entries) trees → ReadEntries false (e ∷ entries) trees
@@ -80,7 +80,7 @@ entries_rowed false entries all types = untyped_rowed entries all
 
 -- trees that are read, as those of a section, as these entries
 pub data ReadsList (typed : Bool) (entries : List Typed) (trees : List Sexp) : Type 0 where
-  reads_list : (groups : List RawGroup) → ((place : Place) → typed_list item.Name place trees ≡ fine groups) → AreRawGroups typed entries groups → ReadsList typed entries trees
+  reads_list : (groups : List RawGroup) → ((place : Place) → typed_list item.Name place trees ≡ parsed groups) → AreRawGroups typed entries groups → ReadsList typed entries trees
 
 pub list_read : (typed : Bool) (entries : List Typed) → AllNamed entries → Every (λ e. IsName e.of) entries → RowOf (flat_map (object_tokens typed) entries) (ReadsList typed entries)
 list_read typed entries all types tokens kinds = rowed_as (entries_rowed typed entries all types tokens kinds) whole

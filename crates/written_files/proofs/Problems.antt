@@ -13,7 +13,7 @@ use Rattle.pddl_lex.specs.declared.tree.TokenKind.{TokenKind}
 use Rattle.pddl_lex.specs.declared.tree.TokenKind.TheVariants as kind
 use Rattle.pddl_lex.specs.declared.tree.Sexp.{Sexp, Group}
 use Rattle.pddl_lex.specs.Brackets.{Bracketed}
-use Rattle.pddl_lex.specs.Verdicts.{fine}
+use Rattle.pddl_lex.specs.Parses.{parsed}
 use Rattle.pddl_parse.specs.declared.raw.Ident.{Ident}
 use Rattle.pddl_parse.specs.declared.raw.RawGroup.{RawGroup}
 use Rattle.pddl_parse.specs.declared.raw.RawInit.{RawInit}
@@ -36,9 +36,9 @@ use Rattle.pddl_parse.specs.Forms.{leaf}
 use Rattle.pddl_parse.proofs.Nodes.{bracket-Group, keyword_of-Leaf, is_word-Leaf}
 use Rattle.pddl_parse.proofs.Read.{formula_read}
 use Rattle.pddl_write.specs.Files.{declares_type}
-use Rattle.written_tokens.specs.Tokens.{group, object_tokens, expr_tokens, formula_tokens}
-use Rattle.written_tokens.specs.EffectTokens.{constraint_tokens}
-use Rattle.written_tokens.specs.FileTokens.{section_tokens, define_tokens, fact_tokens, number_fact_tokens, value_fact_tokens, init_tokens, constraint_section, metric_tokens, problem_tokens_with, problem_tokens}
+use Rattle.roundtrip_tokens.specs.Tokens.{group, object_tokens, expr_tokens, formula_tokens}
+use Rattle.roundtrip_tokens.specs.EffectTokens.{constraint_tokens}
+use Rattle.roundtrip_tokens.specs.FileTokens.{section_tokens, define_tokens, fact_tokens, number_fact_tokens, value_fact_tokens, init_tokens, constraint_section, metric_tokens, problem_tokens_with, problem_tokens}
 use Rattle.written_forms.specs.Raw.{IsEmpty, empty, IsFirst, first, IsRawName, AreRawGroups, no_groups, IsRawFormula}
 use Rattle.written_forms.proofs.Trees.{rowed_as, none_rowed, group_formed, Led, led, led_rowed, Alone, alone, alone_rowed}
 use Rattle.written_forms.proofs.Formulas.{SpellsFormula, spells_formula, formula_formed}
@@ -60,7 +60,7 @@ Standing words trees = Every (λ w. has_section w trees ≡ true) words
 -- trees that are read as sections behind others, where none of those due stands yet, and bring parts of which `In`
 -- holds to parts of which `Out` holds
 data Reads (due stand : List (List ℕ)) (In Out : ProblemParts → Type 0) (trees : List Sexp) : Type 0 where
-  reads : (ss : List ProblemSection) → ((before : List Sexp) → NoneOf due before → problem_sections before trees ≡ fine ss)
+  reads : (ss : List ProblemSection) → ((before : List Sexp) → NoneOf due before → problem_sections before trees ≡ parsed ss)
       → ((parts : ProblemParts) → In parts → Out (put_sections parts ss)) → Standing stand trees → Reads due stand In Out trees
 
 or_first : (a b : Bool) → a ≡ true → (a || b) ≡ true
@@ -80,14 +80,14 @@ stands_first word same place there rest trees =
     or_first (is_section word (Group place (leaf (kind.Keyword word) there ∷ rest))) (has_section word trees) (same_section word same place there rest)
 
 section_read : (word : List ℕ) (k : ProblemKey) → problem_key word ≡ Some k → (before : List Sexp) → has_section word before ≡ false
-    → (place there : Place) (rest : List Sexp) (s : ProblemSection) → problem_body k place rest ≡ fine s
-    → problem_section before (Group place (leaf (kind.Keyword word) there ∷ rest)) ≡ fine s
+    → (place there : Place) (rest : List Sexp) (s : ProblemSection) → problem_body k place rest ≡ parsed s
+    → problem_section before (Group place (leaf (kind.Keyword word) there ∷ rest)) ≡ parsed s
 section_read word k is before fresh place there rest s body =
     rw (bracket-Group (in_problem_section before) place (leaf (kind.Keyword word) there ∷ rest), keyword_of-Leaf, is, fresh) body
 
 -- one section more
 once : (word : List ℕ) (k : ProblemKey) → problem_key word ≡ Some k → (due : List (List ℕ)) → Every (λ w. bytes_eq word w ≡ false) due → (stand stand_now : List (List ℕ))
-    → (In Mid Out : ProblemParts → Type 0) (place there : Place) (rest : List Sexp) (s : ProblemSection) → ((at : Place) → problem_body k at rest ≡ fine s)
+    → (In Mid Out : ProblemParts → Type 0) (place there : Place) (rest : List Sexp) (s : ProblemSection) → ((at : Place) → problem_body k at rest ≡ parsed s)
     → ((parts : ProblemParts) → In parts → Mid (put_section parts s)) → (trees : List Sexp)
     → (Standing stand trees → Standing stand_now (Group place (leaf (kind.Keyword word) there ∷ rest) ∷ trees)) → Reads due stand Mid Out trees
     → Reads (word ∷ due) stand_now In Out (Group place (leaf (kind.Keyword word) there ∷ rest) ∷ trees)
@@ -376,7 +376,7 @@ module _ (p : Parts) (well : IsWellFormed p) (typed : Bool) where
   -- ---- the whole
 
   data Completes (place : Place) (d : Option Ident) (g : Option RawFormula) (parts : ProblemParts) : Type 0 where
-    completes : (form : ProblemForm) → complete place d g parts ≡ fine form → IsRawProblemWith typed p form → Completes place d g parts
+    completes : (form : ProblemForm) → complete place d g parts ≡ parsed form → IsRawProblemWith typed p form → Completes place d g parts
 
   completed : (place : Place) (parts : ProblemParts) (d : Option Ident) (g : Option RawFormula) → Domain d → Goal g → Whole p.metric parts → Completes place d g parts
   completed place parts _ _ (is_given d named) (is_given g so) ready =
@@ -393,10 +393,10 @@ module _ (p : Parts) (well : IsWellFormed p) (typed : Bool) where
 
   -- a tree that is read as the problem
   data ReadsText : Sexp → Type 0 where
-    reads_text : (tree : Sexp) (form : ProblemForm) → problem (tree ∷ []) ≡ fine form → IsRawProblemWith typed p form → ReadsText tree
+    reads_text : (tree : Sexp) (form : ProblemForm) → problem (tree ∷ []) ≡ parsed form → IsRawProblemWith typed p form → ReadsText tree
 
-  text_made : (place there : Place) (second : Sexp) (rest : List Sexp) (name : Ident) → title (codes "problem") second ≡ fine name
-      → (ss : List ProblemSection) → problem_sections [] rest ≡ fine ss → has_section (codes "domain") rest ≡ true → has_section (codes "goal") rest ≡ true
+  text_made : (place there : Place) (second : Sexp) (rest : List Sexp) (name : Ident) → title (codes "problem") second ≡ parsed name
+      → (ss : List ProblemSection) → problem_sections [] rest ≡ parsed ss → has_section (codes "domain") rest ≡ true → has_section (codes "goal") rest ≡ true
       → Completes place (put_sections (bare_problem name) ss).domain (put_sections (bare_problem name) ss).goal (put_sections (bare_problem name) ss)
       → ReadsText (Group place (leaf (kind.Word (codes "define")) there ∷ second ∷ rest))
   text_made place there second rest name is ss are has_domain has_goal (completes form done so) =

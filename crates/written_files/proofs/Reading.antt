@@ -1,9 +1,9 @@
 -- What is written is read again.
 use Rattle.std.specs.Prelude.{[], ◌∷◌}
-use Rattle.written_tokens.specs.Laws.{SpelledByKinds}
+use Rattle.roundtrip_tokens.specs.Laws.{SpelledByKinds}
 use Rattle.pddl_write.specs.Files.{domain_text, problem_text}
-use Rattle.written_tokens.specs.FileTokens.{domain_tokens, problem_tokens}
-use Rattle.written_tokens.proofs.Spelled.{domains_are_spelled, problems_are_spelled}
+use Rattle.roundtrip_tokens.specs.FileTokens.{domain_tokens, problem_tokens}
+use Rattle.roundtrip_tokens.proofs.Spelled.{domains_are_spelled, problems_are_spelled}
 use Rattle.written_files.specs.Laws.{SpellsDomain, DomainsAreRead, SpellsProblem, ProblemsAreRead}
 use Rattle.written_files.proofs.Domains.{domains_are_formed}
 use Rattle.written_files.proofs.Problems.{problems_are_formed}

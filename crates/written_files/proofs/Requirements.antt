@@ -7,12 +7,12 @@ use Rattle.up_kind.specs.Features.{FeatureSet}
 use Rattle.pddl_lex.specs.declared.tree.TokenKind.{TokenKind}
 use Rattle.pddl_lex.specs.declared.tree.TokenKind.TheVariants as kind
 use Rattle.pddl_lex.specs.declared.tree.Sexp.{Sexp}
-use Rattle.pddl_lex.specs.Verdicts.{fine}
+use Rattle.pddl_lex.specs.Parses.{parsed}
 use Rattle.pddl_parse.specs.declared.section.DomainSection.TheVariants as section
 use Rattle.pddl_parse.specs.Sections.{is_known, requirements}
 use Rattle.pddl_parse.proofs.Nodes.{keyword_of-Leaf}
-use Rattle.written_tokens.specs.FileTokens.{keyword_if, requirements_tokens}
-use Rattle.written_tokens.proofs.Named.{every-append}
+use Rattle.roundtrip_tokens.specs.FileTokens.{keyword_if, requirements_tokens}
+use Rattle.roundtrip_tokens.proofs.Named.{every-append}
 use Rattle.written_forms.proofs.Trees.{rowed_as, none_rowed, Led, led, led_rowed}
 use Rattle.written_files.proofs.Each.{TreeOf, RowOf, Section, section_of}
 
@@ -23,7 +23,7 @@ IsKnown k = ⊥
 
 -- trees that are read as requirements
 abbrev pub AreRequirements : List Sexp → Type 0
-AreRequirements trees = requirements section.Requirements trees ≡ fine section.Requirements
+AreRequirements trees = requirements section.Requirements trees ≡ parsed section.Requirements
 
 required : (ks : List TokenKind) → Every IsKnown ks → RowOf ks AreRequirements
 required [] all = λ tokens kinds. none_rowed tokens kinds AreRequirements refl

@@ -9,14 +9,14 @@ use Rattle.up_text.specs.Lists.{Every}
 use Rattle.pddl_lex.specs.declared.tree.TokenKind.{TokenKind}
 use Rattle.pddl_lex.specs.declared.tree.TokenKind.TheVariants as kind
 use Rattle.pddl_lex.specs.declared.tree.Sexp.{Sexp, Group}
-use Rattle.pddl_lex.specs.Verdicts.{behind}
+use Rattle.pddl_lex.specs.Parses.{behind}
 use Rattle.pddl_parse.specs.Brackets.{is_section, has_section}
 use Rattle.pddl_parse.specs.Texts.{title, in_title}
 use Rattle.pddl_parse.specs.Forms.{leaf, ident_at}
 use Rattle.pddl_parse.proofs.Nodes.{bracket-Group, is_section-Group, is_keyword-Leaf, is_word-Leaf}
 use Rattle.pddl_parse.proofs.Read.{ident_read}
-use Rattle.written_tokens.specs.Tokens.{group}
-use Rattle.written_tokens.specs.FileTokens.{section_tokens}
+use Rattle.roundtrip_tokens.specs.Tokens.{group}
+use Rattle.roundtrip_tokens.specs.FileTokens.{section_tokens}
 use Rattle.written_forms.specs.Raw.{IsRawName, at}
 use Rattle.written_forms.proofs.Trees.{rowed_as, group_formed, Led, led, led_rowed, none_rowed}
 use Rattle.written_forms.proofs.Names.{word_is}

@@ -13,7 +13,7 @@ use Rattle.pddl_lex.specs.declared.tree.Sign.TheVariants as sign
 use Rattle.pddl_lex.specs.declared.tree.TokenKind.{TokenKind}
 use Rattle.pddl_lex.specs.declared.tree.TokenKind.TheVariants as kind
 use Rattle.pddl_lex.specs.declared.tree.Sexp.{Sexp, Group}
-use Rattle.pddl_lex.specs.Verdicts.{fine, behind}
+use Rattle.pddl_lex.specs.Parses.{parsed, behind}
 use Rattle.pddl_parse.specs.declared.raw.RawGroup.{RawGroup}
 use Rattle.pddl_parse.specs.declared.raw.RawSymbol.{RawSymbol}
 use Rattle.pddl_parse.specs.declared.raw.RawFunctions.{RawFunctions}
@@ -29,13 +29,13 @@ use Rattle.pddl_parse.specs.Forms.{ident_at}
 use Rattle.pddl_parse.proofs.Nodes.{bracket-Group, is_minus-Group, variables-Group}
 use Rattle.pddl_parse.proofs.Read.{ident_read}
 use Rattle.pddl_write.specs.Files.{gives_text}
-use Rattle.written_tokens.specs.Tokens.{variables_tokens, type_tokens}
-use Rattle.written_tokens.specs.FileTokens.{declared_tokens, signature_tokens, predicate_tokens, function_tokens}
-use Rattle.written_tokens.proofs.Declared.{numbered_spelled}
+use Rattle.roundtrip_tokens.specs.Tokens.{variables_tokens, type_tokens}
+use Rattle.roundtrip_tokens.specs.FileTokens.{declared_tokens, signature_tokens, predicate_tokens, function_tokens}
+use Rattle.roundtrip_tokens.proofs.Declared.{numbered_spelled}
 use Rattle.written_forms.specs.Raw.{IsEmpty, empty, IsFirst, first, at}
 use Rattle.written_forms.proofs.Trees.{formed_as, none_rowed, rowed_as, group_formed, leaf_formed, Led, led, led_rowed}
 use Rattle.written_forms.proofs.Names.{word_is, AllNamed}
-use Rattle.shape_laws.proofs.EffectWords.{IsFree, free}
+use Rattle.grammar_shapes.proofs.EffectWords.{IsFree, free}
 use Rattle.written_forms.proofs.Terms.{SpellsName, spells_name, name_formed}
 use Rattle.written_forms.proofs.Groups.{SpellGroups, spell_groups, groups_rowed}
 use Rattle.written_forms.proofs.Rows.{variables_read}
@@ -71,18 +71,18 @@ numbered_tokens typed k (of ∷ types) =
 -- ---- symbols
 
 list_parts : (ends : Bool) (place : Place) (items : List Sexp) (v : Read (List RawGroup)) (groups : List RawGroup)
-    → behind (short ends place items) v ≡ fine groups → (ends ≡ false) × (v ≡ fine groups)
+    → behind (short ends place items) v ≡ parsed groups → (ends ≡ false) × (v ≡ parsed groups)
 list_parts true place items v groups is = absurd cc
 list_parts false place items v groups is = (refl, is)
 
 -- a tree that is read as a symbol of which this is so, and is no dash
 pub data ReadsSymbol (P : RawSymbol → Type 0) (tree : Sexp) : Type 0 where
-  reads_symbol : (s : RawSymbol) → parse.symbol tree ≡ fine s → is_minus tree ≡ false → P s → ReadsSymbol P tree
+  reads_symbol : (s : RawSymbol) → parse.symbol tree ≡ parsed s → is_minus tree ≡ false → P s → ReadsSymbol P tree
 
 symbol_made : (typed : Bool) (name : Name) (args : List Name) (place : Place) (trees : List Sexp)
     → IsFirst (SpellsName name) (SpellGroups typed (numbered 1 args)) trees → ReadsSymbol (IsRawSymbol typed name args) (Group place trees)
 symbol_made typed name args place _ (first head rest (spells_name ident is named) (spell_groups groups are raws)) =
-    let whole : variable_list place rest ≡ fine groups = sym (variables-Group place rest) ∙ variables_read place rest groups are in
+    let whole : variable_list place rest ≡ parsed groups = sym (variables-Group place rest) ∙ variables_read place rest groups are in
     let (ends, reads) = list_parts (ends_in_minus rest) place rest (lists.typed item.Variable place rest [] false) groups whole in
     reads_symbol (record { name = ident; params = groups }) (rw (bracket-Group parse.in_symbol place (head ∷ rest), ends, ident_read head ident is, reads) refl)
     (is_minus-Group place (head ∷ rest)) (record { name = named; params = raws })
@@ -121,7 +121,7 @@ FunctionNamed d = (IsName d.name × Every IsName d.args) × IsGiven d.gives
 
 -- a tree that is read as what a function gives
 data ReadsGives (g : Gives) (tree : Sexp) : Type 0 where
-  reads_gives : (raw : RawGives) → parse.gives tree ≡ fine raw → is_minus tree ≡ false → IsRawGives g raw → ReadsGives g tree
+  reads_gives : (raw : RawGives) → parse.gives tree ≡ parsed raw → is_minus tree ≡ false → IsRawGives g raw → ReadsGives g tree
 
 gives_read : (g : Gives) → IsGiven g → TreeOf (kind.Word (gives_text g) ∷ []) (ReadsGives g)
 unfolding is_word is_minus
@@ -140,7 +140,7 @@ data ReadSignatures (typed : Bool) (ds : List Function) (trees : List Sexp) : Ty
 -- trees that are read as functions with what they give
 data ReadFunctions (typed given : Bool) (ds : List Function) (trees : List Sexp) : Type 0 where
   read_functions : (groups : List RawFunctions) → ends_after false trees ≡ false
-      → ((place : Place) → parse.declared place trees [] false ≡ fine groups) → AreRawFunctions typed given ds groups → ReadFunctions typed given ds trees
+      → ((place : Place) → parse.declared place trees [] false ≡ parsed groups) → AreRawFunctions typed given ds groups → ReadFunctions typed given ds trees
 
 module _ (typed : Bool) where
   signatures_read : (ds : List Function) → Every FunctionNamed ds → RowOf (flat_map (function_tokens typed false) ds) (ReadSignatures typed ds)
@@ -159,7 +159,7 @@ module _ (typed : Bool) where
   ungiven_read (d ∷ ds) are tokens kinds = rowed_as (signatures_read (d ∷ ds) are tokens kinds) whole
     where
       grouped : (ss : List RawSymbol) → IsFirst (IsRawSignature typed d) (AreEach (IsRawSignature typed) ds IsEmpty) ss → (place : Place)
-          → parse.last_functions place ss false ≡ fine (record { functions = ss; gives = given.Number } ∷ [])
+          → parse.last_functions place ss false ≡ parsed (record { functions = ss; gives = given.Number } ∷ [])
       grouped _ (first s ss so all_so) place = refl
 
       whole : (trees : List Sexp) → ReadSignatures typed (d ∷ ds) trees → ReadFunctions typed false (d ∷ ds) trees
@@ -191,7 +191,7 @@ module _ (typed : Bool) where
 
 -- trees that are read, as those of a section, as these functions
 pub data ReadsFunctions (typed given : Bool) (ds : List Function) (trees : List Sexp) : Type 0 where
-  reads_functions : (groups : List RawFunctions) → ((place : Place) → parse.functions place trees ≡ fine groups) → AreRawFunctions typed given ds groups → ReadsFunctions typed given ds trees
+  reads_functions : (groups : List RawFunctions) → ((place : Place) → parse.functions place trees ≡ parsed groups) → AreRawFunctions typed given ds groups → ReadsFunctions typed given ds trees
 
 pub functions_read : (typed given : Bool) (ds : List Function) → Every FunctionNamed ds → RowOf (flat_map (function_tokens typed given) ds) (ReadsFunctions typed given ds)
 functions_read typed given ds are tokens kinds = rowed_as (each_function_read typed given ds are tokens kinds) whole

@@ -12,7 +12,7 @@ use Rattle.up_tree.specs.declared.problem.Gives.{Gives}
 use Rattle.up_tree.specs.declared.problem.Gives.TheVariants as gives
 use Rattle.up_tree.specs.declared.problem.Parts.{Parts}
 use Rattle.up_tree.specs.WellFormed.{IsType, IsBelow, OfGives, IsAction, top_type, IsWellFormed}
-use Rattle.written_tokens.proofs.Named.{every-map, every-each, every-both, every-take, every-drop}
+use Rattle.roundtrip_tokens.proofs.Named.{every-map, every-each, every-both, every-take, every-drop}
 use Rattle.written_forms.proofs.Names.{AllNamed, AreNamed, type_named, well_named}
 use Rattle.written_files.proofs.Symbols.{PredicateNamed, IsGiven, a_number, of_type, FunctionNamed}
 

@@ -12,7 +12,7 @@ use Rattle.pddl_lex.specs.declared.tree.TokenKind.{TokenKind}
 use Rattle.pddl_lex.specs.declared.tree.TokenKind.TheVariants as kind
 use Rattle.pddl_lex.specs.declared.tree.Sexp.{Sexp, Leaf, Group, Group'}
 use Rattle.pddl_lex.specs.Brackets.{Bracketed}
-use Rattle.pddl_lex.specs.Verdicts.{fine}
+use Rattle.pddl_lex.specs.Parses.{parsed}
 use Rattle.pddl_parse.specs.declared.raw.Ident.{Ident}
 use Rattle.pddl_parse.specs.declared.raw.RawGroup.{RawGroup}
 use Rattle.pddl_parse.specs.declared.raw.RawEffect.{RawEffect}
@@ -25,9 +25,9 @@ use Rattle.pddl_parse.specs.Actions.{action, action_head}
 use Rattle.pddl_parse.specs.Forms as forms
 use Rattle.pddl_parse.proofs.Nodes.{is_empty-Group}
 use Rattle.pddl_parse.proofs.Read.{ident_read, formula_read}
-use Rattle.written_tokens.specs.Tokens.{group, variables_tokens, formula_tokens}
-use Rattle.written_tokens.specs.EffectTokens.{effect_row_tokens, action_tokens}
-use Rattle.written_tokens.proofs.Named.{every-map, every-take}
+use Rattle.roundtrip_tokens.specs.Tokens.{group, variables_tokens, formula_tokens}
+use Rattle.roundtrip_tokens.specs.EffectTokens.{effect_row_tokens, action_tokens}
+use Rattle.roundtrip_tokens.proofs.Named.{every-map, every-take}
 use Rattle.written_forms.specs.Laws.{SpellsAction, ActionsAreFormed}
 use Rattle.written_forms.specs.Raw.{IsFirst, first, IsRawFormula}
 use Rattle.written_forms.specs.RawEffects.{IsRawAll, AreRawRows, IsRawAction}
@@ -50,22 +50,22 @@ some_formula _ _ (forms.of_forall place there vars_at vars groups tree f are is)
 some_formula _ _ (forms.an_atom place head p trees terms is are) = is_empty-Group place _
 some_formula _ _ (forms.a_comparison place there sign r one two a b is is_a is_b) = is_empty-Group place _
 
-some_items : (place : Place) (items : List Sexp) (each : List (Read RawEffect)) (e : RawEffect) → parse.in_effect place items each ≡ fine e → is_none items ≡ false
+some_items : (place : Place) (items : List Sexp) (each : List (Read RawEffect)) (e : RawEffect) → parse.in_effect place items each ≡ parsed e → is_none items ≡ false
 some_items place [] each e is = absurd cc
 some_items place (tree ∷ items) each e is = refl
 
-some_effect : (tree : Sexp) (e : RawEffect) → parse.effect tree ≡ fine e → is_empty tree ≡ false
+some_effect : (tree : Sexp) (e : RawEffect) → parse.effect tree ≡ parsed e → is_empty tree ≡ false
 unfolding parse.effect is_empty
 some_effect (Leaf token) e is = refl
 some_effect (Group' place n row) e is = some_items place _ _ e is
 
 -- what the three keys and their values are read as
 action_read : (place params_at pre_at effect_at vars_at : Place) (name : Sexp) (it : Ident) (vars : List Sexp) (groups : List RawGroup) (pre : Sexp) (f : RawFormula) (last : Sexp) (e : RawEffect)
-    → forms.IsIdent name it → forms.AreTyped vars groups → forms.IsFormula pre f → parse.effect last ≡ fine e
+    → forms.IsIdent name it → forms.AreTyped vars groups → forms.IsFormula pre f → parse.effect last ≡ parsed e
     → action place (
     name ∷ forms.leaf (kind.Keyword (codes "parameters")) params_at ∷ Group vars_at vars ∷ forms.leaf (kind.Keyword (codes "precondition")) pre_at ∷ pre
     ∷ forms.leaf (kind.Keyword (codes "effect")) effect_at ∷ last ∷ []
-    ) ≡ fine (record { name = it; params = groups; pre = f; effect = e })
+    ) ≡ parsed (record { name = it; params = groups; pre = f; effect = e })
 unfolding action_head
 action_read place params_at pre_at effect_at vars_at name it vars groups pre f last e is are is_f is_e =
     rw (ident_read name it is, variables_read vars_at vars groups are, some_formula pre f is_f, formula_read pre f is_f, some_effect last e is_e, is_e) refl
@@ -91,7 +91,7 @@ pre_kinds typed a = kind.Keyword (codes "precondition") ∷ (formula_tokens type
 
 -- a bracket whose trees behind `:action` are read as the action
 data SpellsBracket (typed : Bool) (a : Action) : Sexp → Type 0 where
-  spells_bracket : (place key : Place) (rest : List Sexp) (form : RawAction) → action place rest ≡ fine form → IsRawAction typed a form
+  spells_bracket : (place key : Place) (rest : List Sexp) (form : RawAction) → action place rest ≡ parsed form → IsRawAction typed a form
       → SpellsBracket typed a (Group place (forms.leaf (kind.Keyword (codes "action")) key ∷ rest))
 
 action_made : (typed : Bool) (a : Action) (place : Place) (trees : List Sexp) → ActionRow typed a trees → SpellsBracket typed a (Group place trees)

@@ -13,14 +13,14 @@ use Rattle.up_tree.specs.declared.problem.Function.{Function}
 use Rattle.up_tree.specs.declared.problem.Predicate.{Predicate}
 use Rattle.up_tree.specs.declared.problem.Parts.{Parts}
 use Rattle.up_tree.specs.Objects.{predicate_named, function_named}
-use Rattle.up_tree.specs.Simplify.{is_always}
+use Rattle.up_tree.specs.Simplify.{is_true_formula}
 use Rattle.up_tree.specs.WellFormed as tree
 use Rattle.up_tree.specs.WellFormed.{gives_object, GivesNumber, AreVariables, TermFits, TermsFit, IsAtom, IsNumberTerm, IsEffect, IsRow}
 use Rattle.pddl_lex.specs.declared.tree.Token.{Token}
 use Rattle.pddl_lex.specs.declared.tree.TokenKind.{TokenKind}
 use Rattle.pddl_lex.specs.declared.tree.TokenKind.TheVariants as kind
 use Rattle.pddl_lex.specs.declared.tree.Sexp.{Sexp, Leaf, Group}
-use Rattle.pddl_lex.specs.Verdicts.{fine}
+use Rattle.pddl_lex.specs.Parses.{parsed}
 use Rattle.pddl_parse.specs.declared.raw.RawTerm.{RawTerm}
 use Rattle.pddl_parse.specs.declared.raw.RawCall.{RawCall}
 use Rattle.pddl_parse.specs.declared.raw.RawChange.{RawChange}
@@ -38,25 +38,25 @@ use Rattle.pddl_parse.specs.Forms as forms
 use Rattle.pddl_parse.proofs.Nodes.{bracket-Group, effect-Group, effect_head-Leaf}
 use Rattle.pddl_parse.proofs.Read.{ident_read, terms_read, formula_read}
 use Rattle.pddl_write.specs.Effects.{change_text}
-use Rattle.written_tokens.specs.Tokens.{applied_tokens, term_tokens, expr_tokens, formula_tokens}
-use Rattle.written_tokens.specs.EffectTokens.{effect_tokens, under_tokens}
-use Rattle.written_tokens.proofs.Named.{found_and, and_some}
+use Rattle.roundtrip_tokens.specs.Tokens.{applied_tokens, term_tokens, expr_tokens, formula_tokens}
+use Rattle.roundtrip_tokens.specs.EffectTokens.{effect_tokens, under_tokens}
+use Rattle.roundtrip_tokens.proofs.Named.{found_and, and_some}
 use Rattle.written_forms.specs.Raw.{IsRawTerm, AreRawTerms, IsRawExpr, IsRawFormula}
 use Rattle.written_forms.specs.RawEffects.{raw_change, IsRawAt, at_args, IsRawAdd, an_add, IsRawDelete, a_delete, IsRawChange, a_change, IsRawUndefine, an_undefine, IsRawWhen, a_when, IsRawEffect, IsRawUnder}
 use Rattle.written_forms.proofs.Trees.{kinds_of, at, Formed, leaf_formed, group_formed, formed_as, Alone, alone, Pair, pair, alone_rowed, pair_rowed}
 use Rattle.written_forms.proofs.Names.{found_named, AllNamed, AreNamed}
 use Rattle.written_forms.proofs.Terms.{SpellsTerm, spells, spell, spells_name, IsCallRow, call_row, call_rowed, term_formed, terms_formed, expr_formed}
 use Rattle.written_forms.proofs.Formulas.{SpellsFormula, spells_formula, worded, formula_formed}
-use Rattle.shape_laws.proofs.EffectWords.{ident_other, value_read}
+use Rattle.grammar_shapes.proofs.EffectWords.{ident_other, value_read}
 use Rattle.written_forms.proofs.EffectWords.{change_word}
 
 -- a tree that is read as an effect of which this is so
 pub data SpellsEffect (P : RawEffect → Type 0) (tree : Sexp) : Type 0 where
-  spells_effect : (e : RawEffect) → parse.effect tree ≡ fine e → P e → SpellsEffect P tree
+  spells_effect : (e : RawEffect) → parse.effect tree ≡ parsed e → P e → SpellsEffect P tree
 
 -- a tree that is read as a name at arguments of which this is so
 data SpellsCall (P : RawCall → Type 0) (tree : Sexp) : Type 0 where
-  spells_call : (c : RawCall) → call tree ≡ fine c → P c → SpellsCall P tree
+  spells_call : (c : RawCall) → call tree ≡ parsed c → P c → SpellsCall P tree
 
 data IsUndefined : Sexp → Type 0 where
   is_undefined : (place : Place) → IsUndefined (Leaf (at (kind.Word (codes "undefined")) place))
@@ -83,7 +83,7 @@ change_made word c says C V place there _ (pair one two (spells_call target is_t
     (rw (effect-Group place (forms.leaf (kind.Word word) there ∷ one ∷ two ∷ []), effect_head-Leaf, says, is_target, value_read c two t is) refl)
     (a_change target t so also)
 
-undefined_read : (place : Place) → new_value change.Assign (Leaf (at (kind.Word (codes "undefined")) place)) ≡ fine (new.Undefined place)
+undefined_read : (place : Place) → new_value change.Assign (Leaf (at (kind.Word (codes "undefined")) place)) ≡ parsed (new.Undefined place)
 unfolding is_word place_of
 undefined_read place = refl
 
@@ -159,9 +159,9 @@ module _ (p : Parts) (names : AreNamed p) (objects : List Typed) (objects_named 
   pub under_formed : (typed : Bool) (f : Formula) → tree.IsFormula p objects scope f → (E : RawEffect → Type 0) (ks : List TokenKind)
       → ((back : List Token) → kinds_of back ≡ ks → Formed back (SpellsEffect E))
       → (tokens : List Token) → kinds_of tokens ≡ under_tokens typed f ks → Formed tokens (SpellsEffect (IsRawUnder typed f E))
-  under_formed typed f is E ks inner tokens kinds = by_test (is_always f) refl
+  under_formed typed f is E ks inner tokens kinds = by_test (is_true_formula f) refl
     where
-      by_test : (b : Bool) → is_always f ≡ b → Formed tokens (SpellsEffect (IsRawUnder typed f E))
+      by_test : (b : Bool) → is_true_formula f ≡ b → Formed tokens (SpellsEffect (IsRawUnder typed f E))
       by_test true e = formed_as (inner tokens (kinds ∙ rw e refl)) (λ tree. whole tree)
         where
           whole : (tree : Sexp) → SpellsEffect E tree → SpellsEffect (IsRawUnder typed f E) tree

@@ -27,8 +27,8 @@ use Rattle.pddl_parse.specs.declared.raw.RawFormula as form
 use Rattle.pddl_parse.specs.declared.raw.RawFormula.{RawFormula}
 use Rattle.pddl_parse.specs.Forms as forms
 use Rattle.pddl_parse.specs.Forms.{IsRelation, IsFormula}
-use Rattle.written_tokens.specs.Tokens.{group, variables_tokens, term_tokens, expr_tokens, sign_of, formula_tokens, members_tokens}
-use Rattle.written_tokens.proofs.Named.{found_and, and_some, every-append, every-each}
+use Rattle.roundtrip_tokens.specs.Tokens.{group, variables_tokens, term_tokens, expr_tokens, sign_of, formula_tokens, members_tokens}
+use Rattle.roundtrip_tokens.proofs.Named.{found_and, and_some, every-append, every-each}
 use Rattle.written_forms.specs.Raw.{AreRawGroups, IsEmpty, empty, IsFirst, first, IsRawTerm, AreRawTerms, IsRawExpr, IsRawAtom, an_atom, IsRawCompare, a_compare, IsRawAnd, an_and, IsRawOr, an_or, IsRawNot, a_not, IsRawImply, an_imply, IsRawExists, an_exists, IsRawForall, a_forall, raw_relation as relation_as, IsRawFormula, AreRawMembers}
 use Rattle.written_forms.proofs.Trees.{kinds_of, Formed, Rowed, group_formed, none_rowed, first_rowed, Led, led, Alone, alone, Pair, pair, Bracket, bracket, led_rowed, alone_rowed, pair_rowed, bracket_formed}
 use Rattle.written_forms.proofs.Names.{found_named, AllNamed, AreNamed, type_named}

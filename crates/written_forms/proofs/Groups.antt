@@ -12,7 +12,7 @@ use Rattle.pddl_parse.specs.declared.raw.Ident.{Ident}
 use Rattle.pddl_parse.specs.declared.raw.RawGroup.{RawGroup}
 use Rattle.pddl_parse.specs.Forms as forms
 use Rattle.pddl_parse.specs.Forms.{ident_at, AreVariables, AreTyped}
-use Rattle.written_tokens.specs.Tokens.{variables_tokens}
+use Rattle.roundtrip_tokens.specs.Tokens.{variables_tokens}
 use Rattle.written_forms.specs.Raw.{at, AreRawNames, no_names, more_names, AreRawGroups, no_groups, more_groups, one_group}
 use Rattle.written_forms.proofs.Trees.{kinds_of, Rowed, none_rowed, rowed_as, Led, led, led_rowed}
 use Rattle.written_forms.proofs.Names.{word_is, variable_is, AllNamed}

@@ -12,7 +12,7 @@ use Rattle.up_tree.specs.declared.problem.Predicate.{Predicate}
 use Rattle.up_tree.specs.declared.problem.Function.{Function}
 use Rattle.up_tree.specs.declared.problem.Parts.{Parts}
 use Rattle.up_tree.specs.WellFormed.{top_type, IsType, IsWellFormed}
-use Rattle.written_tokens.proofs.Named.{every-map, every-front, every-back}
+use Rattle.roundtrip_tokens.proofs.Named.{every-map, every-front, every-back}
 use Rattle.pddl_lex.specs.declared.tree.TokenKind.TheVariants as kind
 use Rattle.pddl_parse.specs.Forms as forms
 use Rattle.pddl_parse.specs.Forms.{ident_at, IsIdent, IsVariable}

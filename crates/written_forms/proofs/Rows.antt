@@ -12,7 +12,7 @@ use Rattle.pddl_lex.specs.declared.tree.Token.{Token}
 use Rattle.pddl_lex.specs.declared.tree.TokenKind.{TokenKind}
 use Rattle.pddl_lex.specs.declared.tree.TokenKind.TheVariants as kind
 use Rattle.pddl_lex.specs.declared.tree.Sexp.{Sexp, Group}
-use Rattle.pddl_lex.specs.Verdicts.{fine, faulty, all, over_two, followed}
+use Rattle.pddl_lex.specs.Parses.{parsed, rejected, all, over_two, followed}
 use Rattle.pddl_parse.specs.declared.raw.RawGroup.{RawGroup}
 use Rattle.pddl_parse.specs.declared.raw.RawEffect as raw
 use Rattle.pddl_parse.specs.declared.raw.RawEffect.{RawEffect}
@@ -25,9 +25,9 @@ use Rattle.pddl_parse.specs.Effects as parse
 use Rattle.pddl_parse.specs.Forms as forms
 use Rattle.pddl_parse.proofs.Nodes.{formula-Group, head_of-Leaf, effect-Group, effect_head-Leaf}
 use Rattle.pddl_parse.proofs.Read.{formula_read}
-use Rattle.written_tokens.specs.Tokens.{group, variables_tokens}
-use Rattle.written_tokens.specs.EffectTokens.{for_each_tokens, effect_tokens, under_tokens, effect_row_tokens}
-use Rattle.written_tokens.proofs.Named.{every-append}
+use Rattle.roundtrip_tokens.specs.Tokens.{group, variables_tokens}
+use Rattle.roundtrip_tokens.specs.EffectTokens.{for_each_tokens, effect_tokens, under_tokens, effect_row_tokens}
+use Rattle.roundtrip_tokens.proofs.Named.{every-append}
 use Rattle.written_forms.specs.Raw.{AreRawGroups, IsEmpty, empty, IsFirst, first}
 use Rattle.written_forms.specs.RawEffects.{IsRawEach, for_each, IsRawEffect, IsRawUnder, IsRawForEach, IsRawRow, AreRawRows, IsRawAll, all_of}
 use Rattle.written_forms.proofs.Trees.{kinds_of, Formed, Rowed, none_rowed, first_rowed, Pair, pair, Bracket, bracket, pair_rowed}
@@ -43,23 +43,23 @@ groups_in (form.Exists' groups n row) = groups
 groups_in f = []
 
 value_of : RawFormula → Read RawFormula → RawFormula
-value_of f (fine g) = g
-value_of f (faulty fault others) = f
+value_of f (parsed g) = g
+value_of f (rejected fault others) = f
 
 only : (v : Read (List RawGroup)) (f : RawFormula) (groups : List RawGroup)
-    → followed (over_two (λ gs g. form.Exists gs g) v (fine f)) [] ≡ fine (form.Exists groups f) → v ≡ fine groups
+    → followed (over_two (λ gs g. form.Exists gs g) v (parsed f)) [] ≡ parsed (form.Exists groups f) → v ≡ parsed groups
 unfolding groups_in value_of
-only (fine gs) f groups is = ap (λ (w : Read RawFormula). fine (groups_in (value_of f w))) is
-only (faulty fault others) f groups is = absurd cc
+only (parsed gs) f groups is = ap (λ (w : Read RawFormula). parsed (groups_in (value_of f w))) is
+only (rejected fault others) f groups is = absurd cc
 
-pub variables_read : (there : Place) (trees : List Sexp) (groups : List RawGroup) → forms.AreTyped trees groups → variables (Group there trees) ≡ fine groups
+pub variables_read : (there : Place) (trees : List Sexp) (groups : List RawGroup) → forms.AreTyped trees groups → variables (Group there trees) ≡ parsed groups
 variables_read there trees groups are =
     let body : Sexp = Group there (forms.leaf (kind.Word (codes "and")) there ∷ []) in
     let body_is : forms.IsFormula (Group there (forms.leaf (kind.Word (codes "and")) there ∷ [])) (form.And []) = forms.of_and there there [] [] forms.no_formulas in
-    let whole : formulas.formula (Group there (forms.leaf (kind.Word (codes "exists")) there ∷ Group there trees ∷ body ∷ [])) ≡ fine (form.Exists groups (form.And [])) =
+    let whole : formulas.formula (Group there (forms.leaf (kind.Word (codes "exists")) there ∷ Group there trees ∷ body ∷ [])) ≡ parsed (form.Exists groups (form.And [])) =
     formula_read _ _ (forms.of_exists there there there trees groups body (form.And []) are body_is) in
     let steps : formulas.formula (Group there (forms.leaf (kind.Word (codes "exists")) there ∷ Group there trees ∷ body ∷ []))
-    ≡ followed (over_two (λ gs g. form.Exists gs g) (variables (Group there trees)) (fine (form.And []))) [] =
+    ≡ followed (over_two (λ gs g. form.Exists gs g) (variables (Group there trees)) (parsed (form.And []))) [] =
     rw (formula-Group there (forms.leaf (kind.Word (codes "exists")) there ∷ Group there trees ∷ body ∷ []), head_of-Leaf, formula_read body (form.And []) body_is) refl in
     only (variables (Group there trees)) (form.And []) groups (sym steps ∙ whole)
 
@@ -72,7 +72,7 @@ each_made typed vars E place there _ (pair _ two (bracket at_vars trees (spell_g
 
 -- trees that are read as effects of which this is so
 pub data SpellEffects (P : List RawEffect → Type 0) (trees : List Sexp) : Type 0 where
-  spell_effects : (es : List RawEffect) → all (map parse.effect trees) ≡ fine es → P es → SpellEffects P trees
+  spell_effects : (es : List RawEffect) → all (map parse.effect trees) ≡ parsed es → P es → SpellEffects P trees
 
 more_effects : (P : RawEffect → Type 0) (Q : List RawEffect → Type 0) (tree : Sexp) (trees : List Sexp) → SpellsEffect P tree → SpellEffects Q trees → SpellEffects (IsFirst P Q) (tree ∷ trees)
 more_effects P Q tree trees (spells_effect e is so) (spell_effects es are all_so) = spell_effects (e ∷ es) (rw (is, are) refl) (first e es so all_so)

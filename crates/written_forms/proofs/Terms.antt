@@ -26,8 +26,8 @@ use Rattle.pddl_parse.specs.declared.raw.RawTerm as raw
 use Rattle.pddl_parse.specs.declared.raw.RawTerm.{RawTerm}
 use Rattle.pddl_parse.specs.Forms as forms
 use Rattle.pddl_parse.specs.Forms.{ident_at, IsIdent, IsTerm, AreTerms, IsOperator}
-use Rattle.written_tokens.specs.Tokens.{group, term_tokens, arguments_tokens, expr_tokens}
-use Rattle.written_tokens.proofs.Named.{found_and, and_some}
+use Rattle.roundtrip_tokens.specs.Tokens.{group, term_tokens, arguments_tokens, expr_tokens}
+use Rattle.roundtrip_tokens.proofs.Named.{found_and, and_some}
 use Rattle.written_forms.specs.Raw.{IsRawName, at, IsEmpty, empty, IsFirst, first, a_variable, an_object, a_number, IsRawCall, a_call, IsRawArithmetic, arithmetic, IsRawTerm, AreRawArguments, AreRawTerms, IsRawExpr}
 use Rattle.written_forms.proofs.Trees.{kinds_of, Formed, Rowed, leaf_formed, group_formed, none_rowed, first_rowed, Led, led, Pair, pair, led_rowed, pair_rowed}
 use Rattle.written_forms.proofs.Names.{word_is, variable_is, found_named, AllNamed, AreNamed}

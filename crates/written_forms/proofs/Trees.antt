@@ -6,7 +6,7 @@ use Rattle.pddl_lex.specs.declared.tree.TokenKind.{TokenKind}
 use Rattle.pddl_lex.specs.declared.tree.TokenKind.TheVariants.{Open, Close}
 use Rattle.pddl_lex.specs.declared.tree.Sexp.{Sexp, Leaf, Group}
 use Rattle.pddl_lex.specs.Brackets.{is_leaf, opening, closing, Bracketed, nothing, leaf, group as grouped}
-use Rattle.written_tokens.specs.Tokens.{group}
+use Rattle.roundtrip_tokens.specs.Tokens.{group}
 
 abbrev pub kinds_of : List Token → List TokenKind
 kinds_of tokens = map (λ t. t.kind) tokens

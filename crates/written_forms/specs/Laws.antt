@@ -13,7 +13,7 @@ use Rattle.up_tree.specs.WellFormed.{IsRow, IsAction, IsWellFormed}
 use Rattle.pddl_lex.specs.declared.tree.Token.{Token}
 use Rattle.pddl_lex.specs.declared.tree.TokenKind.TheVariants.{Word, Keyword}
 use Rattle.pddl_lex.specs.declared.tree.Sexp.{Sexp, Group}
-use Rattle.pddl_lex.specs.Verdicts.{fine}
+use Rattle.pddl_lex.specs.Parses.{parsed}
 use Rattle.pddl_lex.specs.Brackets.{Bracketed}
 use Rattle.pddl_parse.specs.declared.raw.RawFormula.{RawFormula}
 use Rattle.pddl_parse.specs.declared.raw.RawEffect.{RawEffect}
@@ -21,8 +21,8 @@ use Rattle.pddl_parse.specs.Forms.{IsFormula, leaf}
 use Rattle.pddl_parse.specs.declared.raw.RawAction.{RawAction}
 use Rattle.pddl_parse.specs.Effects.{effect}
 use Rattle.pddl_parse.specs.Actions.{action}
-use Rattle.written_tokens.specs.Tokens.{group, formula_tokens}
-use Rattle.written_tokens.specs.EffectTokens.{effect_row_tokens, action_tokens}
+use Rattle.roundtrip_tokens.specs.Tokens.{group, formula_tokens}
+use Rattle.roundtrip_tokens.specs.EffectTokens.{effect_row_tokens, action_tokens}
 use Rattle.written_forms.specs.Raw.{IsRawFormula}
 use Rattle.written_forms.specs.RawEffects.{IsRawAll, AreRawRows, IsRawAction}
 
@@ -46,7 +46,7 @@ pub record SpellsRows (typed : Bool) (rows : List Row) (tokens : List Token) : T
   pub tree : Sexp
   pub form : RawEffect
   pub bracketed : Bracketed tokens (tree ∷ [])
-  pub read : effect tree ≡ fine form
+  pub read : effect tree ≡ parsed form
   pub is : IsRawAll (AreRawRows typed rows) form
 
 -- the same of the effect of an action with these rows
@@ -63,7 +63,7 @@ pub record SpellsAction (typed : Bool) (a : Action) (tokens : List Token) : Type
   pub rest : List Sexp
   pub form : RawAction
   pub bracketed : Bracketed tokens (Group place (leaf (Keyword (codes "action")) key ∷ rest) ∷ [])
-  pub read : action place rest ≡ fine form
+  pub read : action place rest ≡ parsed form
   pub is : IsRawAction typed a form
 
 -- tokens that are written for an action of a well formed problem are read as the action

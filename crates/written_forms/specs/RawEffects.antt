@@ -10,7 +10,7 @@ use Rattle.up_tree.specs.declared.action.Effect.{Effect}
 use Rattle.up_tree.specs.declared.action.Effect.TheVariants as effect
 use Rattle.up_tree.specs.declared.action.Row.{Row}
 use Rattle.up_tree.specs.declared.action.Action.{Action}
-use Rattle.up_tree.specs.Simplify.{is_always}
+use Rattle.up_tree.specs.Simplify.{is_true_formula}
 use Rattle.pddl_parse.specs.declared.raw.Ident.{Ident}
 use Rattle.pddl_parse.specs.declared.raw.RawGroup.{RawGroup}
 use Rattle.pddl_parse.specs.declared.raw.RawTerm.{RawTerm}
@@ -62,7 +62,7 @@ IsRawEffect (effect.Undefine f ts) e = IsRawUndefine (IsRawAt f (AreRawTerms ts)
 
 -- inside a `when` where the condition isn't `true`
 abbrev pub IsRawUnder : Bool → Formula → (RawEffect → Type 0) → RawEffect → Type 0
-IsRawUnder typed f E e = by (is_always f)
+IsRawUnder typed f E e = by (is_true_formula f)
   where
     by : Bool → Type 0
     by true = E e

@@ -21,7 +21,7 @@ use Rattle.up_tree.specs.declared.problem.Predicate.{Predicate}
 use Rattle.up_tree.specs.declared.problem.ValueFact.{ValueFact}
 use Rattle.up_tree.specs.Objects.{type_in, predicate_named, function_named}
 use Rattle.up_tree.specs.WellFormed.{GivesNumber, IsBelow, IsFact, IsNumberFact, IsValueFact, IsWellFormed, ObjectsFit, gives_object}
-use Rattle.pddl_lex.specs.Verdicts.{fine}
+use Rattle.pddl_lex.specs.Parses.{parsed}
 use Rattle.pddl_parse.specs.declared.raw.Ident.{Ident}
 use Rattle.pddl_parse.specs.declared.raw.RawGround.{RawGround}
 use Rattle.pddl_parse.specs.declared.raw.RawInit.{RawInit}
@@ -35,12 +35,12 @@ use Rattle.up_phrase.specs.Named.{at as fault_at}
 use Rattle.up_phrase.specs.Walks.{unless}
 use Rattle.up_check.specs.declared.lists.Initial.{Initial}
 use Rattle.up_check.specs.Initial.{object_faults, argument_faults, bracket_faults, atom_faults, arguments, is_at, number_at, object_at, value_faults, term_faults, member_faults, with_member, stated, initial}
-use Rattle.written_tokens.proofs.Named.{found_and}
+use Rattle.roundtrip_tokens.proofs.Named.{found_and}
 use Rattle.written_forms.specs.Raw.{at, empty, first, IsEmpty, IsRawName}
 use Rattle.written_files.specs.RawFiles.{AreEach, IsRawGround, IsRawFact, an_atom, IsRawNumberFact, a_number, IsRawValueFact, an_object, IsRawInit}
-use Rattle.written_names.specs.Agree.{signature_of, Agree}
-use Rattle.written_names.proofs.Found.{object_found, under_is, predicate_found, function_found}
-use Rattle.written_names.proofs.Rows.{name_is}
+use Rattle.roundtrip_names.specs.Agree.{signature_of, Agree}
+use Rattle.roundtrip_names.proofs.Found.{object_found, under_is, predicate_found, function_found}
+use Rattle.roundtrip_names.proofs.Rows.{name_is}
 use Rattle.written_domains.proofs.Names.{every}
 
 -- ---- members that differ from those before them
@@ -75,8 +75,8 @@ module _ {X : Type 0} (key : X → List Name) where
     module _ (next : EachNext) (Rest : List RawInit → Type 0) (whole : Initial) where
       -- members of one sort, one after the other, and then a rest
       pub each_stated : (xs seen : List X) → Every Fits xs → Apart seen xs → Differ (map key xs)
-          → ((raws : List RawInit) → Rest raws → stated names (before (seen ++ xs)) raws ≡ fine whole)
-          → (raws : List RawInit) → AreEach Is xs Rest raws → stated names (before seen) raws ≡ fine whole
+          → ((raws : List RawInit) → Rest raws → stated names (before (seen ++ xs)) raws ≡ parsed whole)
+          → (raws : List RawInit) → AreEach Is xs Rest raws → stated names (before seen) raws ≡ parsed whole
       each_stated [] seen all apart differ rest raws so = ap (λ ys. stated names (before ys) raws) (sym (append-nil seen)) ∙ rest raws so
       each_stated (x ∷ xs) seen all apart differ rest _ (first raw raws is so) =
           let (none, grown) = next seen x all.0 apart.0 raw is in
@@ -237,10 +237,10 @@ module _ (names : Declarations) (p : Parts) (agree : Agree names p p.objects) wh
   abbrev written_state : Initial
   written_state = record { atoms = p.atoms; numbers = p.numbers; values = p.values }
 
-  none_left : (raws : List RawInit) → IsEmpty raws → stated names written_state raws ≡ fine written_state
+  none_left : (raws : List RawInit) → IsEmpty raws → stated names written_state raws ≡ parsed written_state
   none_left _ empty = refl
 
-  pub initial_read : IsWellFormed p → (inits : List RawInit) → IsRawInit p inits → initial names inits ≡ fine written_state
+  pub initial_read : IsWellFormed p → (inits : List RawInit) → IsRawInit p inits → initial names inits ≡ parsed written_state
   initial_read well inits so =
       each_stated atom_key names (IsFact p) IsRawFact with_atoms next_atom _ written_state p.atoms [] well.atoms (apart_at_first atom_key p.atoms)
       (atoms_apart p.atoms well.atoms_differ)

@@ -9,7 +9,7 @@ use Rattle.up_tree.specs.declared.problem.Function.{Function}
 use Rattle.up_tree.specs.declared.problem.Parts.{Parts}
 use Rattle.up_tree.specs.declared.problem.Predicate.{Predicate}
 use Rattle.up_tree.specs.WellFormed.{IsType, IsWellFormed}
-use Rattle.pddl_lex.specs.Verdicts.{fine}
+use Rattle.pddl_lex.specs.Parses.{parsed}
 use Rattle.pddl_parse.specs.declared.raw.ProblemForm.{ProblemForm}
 use Rattle.pddl_write.specs.Files.{declares_type}
 use Rattle.up_phrase.specs.Declarations.{Declarations}
@@ -19,13 +19,13 @@ use Rattle.up_check.specs.declared.problem.Stated.{Stated}
 use Rattle.up_check.specs.Lists as lists
 use Rattle.up_check.specs.Problems.{wrong_domain, stated, parts}
 use Rattle.written_files.specs.RawFiles.{IsRawProblem}
-use Rattle.written_names.specs.Agree.{entry, signature_of, Agree, TypesWritten, and_objects, domain_names}
-use Rattle.written_names.proofs.Agreeing.{declared_agree, types_are_written}
-use Rattle.written_names.proofs.Conditions.{conditions_are_named}
-use Rattle.written_names.proofs.Declared.{objects_are_named}
-use Rattle.written_names.proofs.Entered.{Free, fresh_free, map_back}
-use Rattle.written_names.proofs.Found.{entry_found}
-use Rattle.written_names.proofs.Rows.{name_is}
+use Rattle.roundtrip_names.specs.Agree.{entry, signature_of, Agree, TypesWritten, and_objects, domain_names}
+use Rattle.roundtrip_names.proofs.Agreeing.{declared_agree, types_are_written}
+use Rattle.roundtrip_names.proofs.Conditions.{conditions_are_named}
+use Rattle.roundtrip_names.proofs.Declared.{objects_are_named}
+use Rattle.roundtrip_names.proofs.Entered.{Free, fresh_free, map_back}
+use Rattle.roundtrip_names.proofs.Found.{entry_found}
+use Rattle.roundtrip_names.proofs.Rows.{name_is}
 use Rattle.written_domains.proofs.Names.{differ_back, differ_apart}
 use Rattle.written_problems.specs.Laws.{ProblemsAreNamed}
 use Rattle.written_problems.proofs.Initial.{initial_read}
@@ -82,7 +82,7 @@ module _ (p : Parts) (well : IsWellFormed p) (form : ProblemForm) (so : IsRawPro
   new_typed : Every (λ o. IsType p o.of) new
   new_typed = every_back (λ o. IsType p o.of) constants new (subst (Every (λ o. IsType p o.of)) (sym (take-append-drop p.constants p.objects)) well.object_types)
 
-  objects_read : with_objects form.objects (domain_names p) ≡ fine names
+  objects_read : with_objects form.objects (domain_names p) ≡ parsed names
   objects_read =
       objects_are_named p (declares_type p) all_written new form.objects (domain_names p) refl so.objects objects_free
       (differ_back (map name_of constants) (map name_of new) all_differ) new_typed
@@ -90,7 +90,7 @@ module _ (p : Parts) (well : IsWellFormed p) (form : ProblemForm) (so : IsRawPro
   abbrev whole : Stated
   whole = record { init = record { atoms = p.atoms; numbers = p.numbers; values = p.values }; goal = p.goal; constraints = p.constraints; metric = p.metric }
 
-  stated_read : stated names [] form ≡ fine whole
+  stated_read : stated names [] form ≡ parsed whole
   stated_read =
       rw (
         initial_read names p agree well form.init so.init,
@@ -122,4 +122,4 @@ module _ (p : Parts) (well : IsWellFormed p) (form : ProblemForm) (so : IsRawPro
 
 pub problems_are_named : ProblemsAreNamed
 problems_are_named p well form so =
-    rw (right_domain p well form so, objects_read p well form so, stated_read p well form so) (ap fine (rebuilt p well form so))
+    rw (right_domain p well form so, objects_read p well form so, stated_read p well form so) (ap parsed (rebuilt p well form so))

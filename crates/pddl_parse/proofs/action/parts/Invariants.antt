@@ -1,5 +1,5 @@
 use Rattle.std.proofs.Common.{◌≡◌, length}
-use Rattle.pddl_lex.specs.Verdicts.{over}
+use Rattle.pddl_lex.specs.Parses.{over}
 use Rattle.pddl_parse.specs.Actions.{filled, parts, no_keys}
 use Rattle.pddl_parse.proofs.action.parts.Given as goal
 

@@ -1,5 +1,5 @@
 use Rattle.std.proofs.Common.{◌≡◌, map, drop}
-use Rattle.pddl_lex.specs.Verdicts.{all, before}
+use Rattle.pddl_lex.specs.Parses.{all, before}
 use Rattle.pddl_parse.specs.Formulas.{formula}
 use Rattle.pddl_parse.proofs.formula.+formula.Given as goal
 

@@ -1,5 +1,5 @@
 use Rattle.std.proofs.Common.{◌≡◌, take, drop, []}
-use Rattle.pddl_lex.specs.Verdicts.{over}
+use Rattle.pddl_lex.specs.Parses.{over}
 use Rattle.pddl_parse.specs.Sections.{problem_sections}
 use Rattle.pddl_parse.specs.Texts.{put_sections}
 use Rattle.pddl_parse.proofs.problem.put_sections.Given as goal

@@ -1,5 +1,5 @@
 use Rattle.std.proofs.Common.{◌≡◌, map, drop}
-use Rattle.pddl_lex.specs.Verdicts.{all, before}
+use Rattle.pddl_lex.specs.Parses.{all, before}
 use Rattle.pddl_parse.specs.Shapes.{ident}
 use Rattle.pddl_parse.proofs.start.idents.Given as goal
 

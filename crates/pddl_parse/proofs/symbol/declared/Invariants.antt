@@ -1,5 +1,5 @@
 use Rattle.std.proofs.Common.{◌≡◌, length, false, []}
-use Rattle.pddl_lex.specs.Verdicts.{before}
+use Rattle.pddl_lex.specs.Parses.{before}
 use Rattle.pddl_parse.specs.Symbols.{declared}
 use Rattle.pddl_parse.proofs.symbol.declared.Given as goal
 

@@ -1,5 +1,5 @@
 use Rattle.std.proofs.Common.{◌≡◌, map, drop}
-use Rattle.pddl_lex.specs.Verdicts.{all, before}
+use Rattle.pddl_lex.specs.Parses.{all, before}
 use Rattle.pddl_parse.specs.Terms.{term}
 use Rattle.pddl_parse.proofs.term.+term.Given as goal
 

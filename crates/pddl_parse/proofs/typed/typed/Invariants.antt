@@ -1,5 +1,5 @@
 use Rattle.std.proofs.Common.{◌≡◌, length, false, []}
-use Rattle.pddl_lex.specs.Verdicts.{before}
+use Rattle.pddl_lex.specs.Parses.{before}
 use Rattle.pddl_parse.specs.TypedLists.{typed}
 use Rattle.pddl_parse.proofs.typed.typed.Given as goal
 

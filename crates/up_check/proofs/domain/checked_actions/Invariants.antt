@@ -1,5 +1,5 @@
 use Rattle.std.proofs.Common.{◌≡◌, [], drop}
-use Rattle.pddl_lex.specs.Verdicts.{before}
+use Rattle.pddl_lex.specs.Parses.{before}
 use Rattle.up_phrase.specs.Declarations.{declarations}
 use Rattle.up_check.specs.Domains.{actions}
 use Rattle.up_check.proofs.domain.checked_actions.Given as goal

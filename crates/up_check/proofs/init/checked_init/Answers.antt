@@ -1,5 +1,5 @@
 use Rattle.std.proofs.Common.{◌∙◌, ap}
-use Rattle.pddl_lex.specs.Verdicts.{first}
+use Rattle.pddl_lex.specs.Parses.{first}
 use Rattle.up_phrase.specs.Declarations.{declarations}
 use Rattle.up_check.specs.Held.{held}
 use Rattle.up_phrase.proofs.Steps.{handed_on}

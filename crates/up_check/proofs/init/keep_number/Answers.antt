@@ -2,8 +2,8 @@ use Rattle.std.proofs.Common.{refl, sym}
 use Rattle.up_check.proofs.Tables.{number_found, number_added, number_kept, on_ok}
 use Rattle.up_check.proofs.init.keep_number.Goals as goal
 
-pub returns-in-Some-clause-fine : goal.returns-in-Some-clause-fine
-returns-in-Some-clause-fine c =
+pub returns-in-Some-clause-parsed : goal.returns-in-Some-clause-parsed
+returns-in-Some-clause-parsed c =
     rw (
       ← number_found c.in_ok-ground.ground c.args.term.now c.in_ok-ground.ensures.name c.in_ok-ground.ensures.args c.args.numbers.now.entries,
       ← c.in-Some.ensures.value,
@@ -22,8 +22,8 @@ returns-in-Some-clause-err c =
       ← c.in-Some.ensures.value,
     ) c.same_number.ensures.err
 
-pub returns-clause-fine : goal.returns-clause-fine
-returns-clause-fine c =
+pub returns-clause-parsed : goal.returns-clause-parsed
+returns-clause-parsed c =
     rw (
       ← number_found c.in_ok-ground.ground c.args.term.now c.in_ok-ground.ensures.name c.in_ok-ground.ensures.args c.args.numbers.now.entries,
       ← c.in_default.ensures.value,

@@ -4,8 +4,8 @@ use Rattle.up_check.specs.Held.{same_ground}
 use Rattle.up_check.proofs.Tables.{object_found, object_added, object_kept, on_ok}
 use Rattle.up_check.proofs.init.keep_object.Goals as goal
 
-pub returns-in-Some-clause-fine : goal.returns-in-Some-clause-fine
-returns-in-Some-clause-fine c =
+pub returns-in-Some-clause-parsed : goal.returns-in-Some-clause-parsed
+returns-in-Some-clause-parsed c =
     rw (
       ← object_found c.in_ok-ground.ground c.args.term.now c.in_ok-ground.ensures.name c.in_ok-ground.ensures.args c.args.values.now.entries,
       ← c.in-Some.ensures.value,
@@ -24,8 +24,8 @@ returns-in-Some-clause-err c =
       ← c.in-Some.ensures.value,
     ) c.same_object.ensures.err
 
-pub returns-clause-fine : goal.returns-clause-fine
-returns-clause-fine c =
+pub returns-clause-parsed : goal.returns-clause-parsed
+returns-clause-parsed c =
     rw (
       ← object_found c.in_ok-ground.ground c.args.term.now c.in_ok-ground.ensures.name c.in_ok-ground.ensures.args c.args.values.now.entries,
       ← c.in_default.ensures.value,

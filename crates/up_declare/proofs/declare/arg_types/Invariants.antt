@@ -1,5 +1,5 @@
 use Rattle.std.proofs.Common.{◌≡◌, drop}
-use Rattle.pddl_lex.specs.Verdicts.{before}
+use Rattle.pddl_lex.specs.Parses.{before}
 use Rattle.up_phrase.specs.Declarations.{declarations}
 use Rattle.up_declare.specs.Declaring.{arg_types}
 use Rattle.up_declare.proofs.declare.arg_types.Given as goal

@@ -1,5 +1,5 @@
 use Rattle.std.proofs.Common.{◌≡◌, map, drop}
-use Rattle.pddl_lex.specs.Verdicts.{all, before}
+use Rattle.pddl_lex.specs.Parses.{all, before}
 use Rattle.up_phrase.specs.Declarations.{declarations}
 use Rattle.up_phrase.specs.Conditions.{formula}
 use Rattle.up_phrase.specs.Scopes.{variables, barred}

@@ -1,5 +1,5 @@
 use Rattle.std.proofs.Common.{◌≡◌, map, drop}
-use Rattle.pddl_lex.specs.Verdicts.{before}
+use Rattle.pddl_lex.specs.Parses.{before}
 use Rattle.up_phrase.specs.Declarations.{declarations}
 use Rattle.up_effect.specs.Effects.{together, rows}
 use Rattle.up_effect.specs.Walk.{around}

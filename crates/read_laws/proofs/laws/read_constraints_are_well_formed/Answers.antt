@@ -1,5 +1,0 @@
-use Rattle.read_laws.proofs.Constraints.{constraints_are_well_formed}
-use Rattle.read_laws.proofs.laws.read_constraints_are_well_formed.Goals as goal
-
-pub returns : goal.returns
-returns c = constraints_are_well_formed

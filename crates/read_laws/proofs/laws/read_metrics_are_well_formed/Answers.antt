@@ -1,5 +1,0 @@
-use Rattle.read_laws.proofs.Constraints.{metrics_are_well_formed}
-use Rattle.read_laws.proofs.laws.read_metrics_are_well_formed.Goals as goal
-
-pub returns : goal.returns
-returns c = metrics_are_well_formed

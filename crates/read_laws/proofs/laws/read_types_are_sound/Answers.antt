@@ -1,5 +1,0 @@
-use Rattle.read_laws.proofs.SoundTypes.{types_are_sound}
-use Rattle.read_laws.proofs.laws.read_types_are_sound.Goals as goal
-
-pub returns : goal.returns
-returns c = types_are_sound

@@ -1,0 +1,5 @@
+use Rattle.semantics_laws.proofs.Framing.{rest_stays}
+use Rattle.semantics_laws.proofs.laws.rest_stays.Goals as goal
+
+pub returns : goal.returns
+returns c = rest_stays

@@ -1,9 +1,0 @@
-use Rattle.std.proofs.Common.{sym, ◌∙◌}
-use Rattle.text_rows.proofs.Entries.{are_due, due_pass}
-use Rattle.text_rows.proofs.looks.are_typed.Goals as goal
-
-pub returns-then-entries-due : goal.returns-then-entries-due
-returns-then-entries-due c = (
-  λ is. are_due c.args.entries.now c.args.due.now c.if-entries-due.true (sym c.each_is_typed.ensures ∙ is),
-  λ same. c.each_is_typed.ensures ∙ rw same (due_pass c.args.due.now),
-)

@@ -1,5 +1,0 @@
-use Rattle.up_laws.proofs.Planning.{plans_depend}
-use Rattle.up_laws.proofs.laws.plans_depend_on_named_parts.Goals as goal
-
-pub returns : goal.returns
-returns c = plans_depend

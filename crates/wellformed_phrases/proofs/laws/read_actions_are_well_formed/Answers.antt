@@ -1,0 +1,5 @@
+use Rattle.wellformed_phrases.proofs.Actions.{actions_are_well_formed}
+use Rattle.wellformed_phrases.proofs.laws.read_actions_are_well_formed.Goals as goal
+
+pub returns : goal.returns
+returns c = actions_are_well_formed

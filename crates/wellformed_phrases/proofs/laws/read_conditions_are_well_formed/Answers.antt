@@ -1,0 +1,5 @@
+use Rattle.wellformed_phrases.proofs.Conditions.{conditions_are_well_formed}
+use Rattle.wellformed_phrases.proofs.laws.read_conditions_are_well_formed.Goals as goal
+
+pub returns : goal.returns
+returns c = conditions_are_well_formed

@@ -1,0 +1,5 @@
+use Rattle.wellformed_phrases.proofs.Facts.{initial_states_are_well_formed}
+use Rattle.wellformed_phrases.proofs.laws.read_initial_states_are_well_formed.Goals as goal
+
+pub returns : goal.returns
+returns c = initial_states_are_well_formed

@@ -1,0 +1,5 @@
+use Rattle.wellformed_phrases.proofs.Constraints.{metrics_are_well_formed}
+use Rattle.wellformed_phrases.proofs.laws.read_metrics_are_well_formed.Goals as goal
+
+pub returns : goal.returns
+returns c = metrics_are_well_formed

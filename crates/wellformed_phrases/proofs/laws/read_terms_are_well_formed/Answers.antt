@@ -1,0 +1,5 @@
+use Rattle.wellformed_phrases.proofs.Terms.{terms_are_well_formed}
+use Rattle.wellformed_phrases.proofs.laws.read_terms_are_well_formed.Goals as goal
+
+pub returns : goal.returns
+returns c = terms_are_well_formed

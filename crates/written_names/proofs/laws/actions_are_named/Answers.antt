@@ -1,5 +1,0 @@
-use Rattle.written_names.proofs.Rows.{actions_are_named}
-use Rattle.written_names.proofs.laws.actions_are_named.Goals as goal
-
-pub returns : goal.returns
-returns c = actions_are_named

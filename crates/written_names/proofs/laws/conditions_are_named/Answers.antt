@@ -1,5 +1,0 @@
-use Rattle.written_names.proofs.Conditions.{conditions_are_named}
-use Rattle.written_names.proofs.laws.conditions_are_named.Goals as goal
-
-pub returns : goal.returns
-returns c = conditions_are_named

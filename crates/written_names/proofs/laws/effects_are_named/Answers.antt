@@ -1,5 +1,0 @@
-use Rattle.written_names.proofs.Rows.{effects_are_named}
-use Rattle.written_names.proofs.laws.effects_are_named.Goals as goal
-
-pub returns : goal.returns
-returns c = effects_are_named

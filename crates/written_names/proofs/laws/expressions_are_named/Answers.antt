@@ -1,5 +1,0 @@
-use Rattle.written_names.proofs.Exprs.{expressions_are_named}
-use Rattle.written_names.proofs.laws.expressions_are_named.Goals as goal
-
-pub returns : goal.returns
-returns c = expressions_are_named

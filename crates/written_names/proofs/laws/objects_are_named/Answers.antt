@@ -1,5 +1,0 @@
-use Rattle.written_names.proofs.Declared.{objects_are_named}
-use Rattle.written_names.proofs.laws.objects_are_named.Goals as goal
-
-pub returns : goal.returns
-returns c = objects_are_named

@@ -1,5 +1,0 @@
-use Rattle.written_names.proofs.Settings.{plain_conditions_are_named}
-use Rattle.written_names.proofs.laws.plain_conditions_are_named.Goals as goal
-
-pub returns : goal.returns
-returns c = plain_conditions_are_named

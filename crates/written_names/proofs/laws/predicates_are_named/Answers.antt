@@ -1,5 +1,0 @@
-use Rattle.written_names.proofs.Params.{predicates_are_named}
-use Rattle.written_names.proofs.laws.predicates_are_named.Goals as goal
-
-pub returns : goal.returns
-returns c = predicates_are_named

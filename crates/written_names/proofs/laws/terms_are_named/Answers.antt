@@ -1,5 +1,0 @@
-use Rattle.written_names.proofs.Terms.{terms_are_named}
-use Rattle.written_names.proofs.laws.terms_are_named.Goals as goal
-
-pub returns : goal.returns
-returns c = terms_are_named

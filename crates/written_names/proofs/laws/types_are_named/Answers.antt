@@ -1,5 +1,0 @@
-use Rattle.written_names.proofs.Listed.{types_are_named}
-use Rattle.written_names.proofs.laws.types_are_named.Goals as goal
-
-pub returns : goal.returns
-returns c = types_are_named

@@ -1,5 +1,0 @@
-use Rattle.written_names.proofs.Agreeing.{types_are_written}
-use Rattle.written_names.proofs.laws.types_are_written.Goals as goal
-
-pub returns : goal.returns
-returns c = types_are_written

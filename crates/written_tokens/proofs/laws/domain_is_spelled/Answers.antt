@@ -1,5 +1,0 @@
-use Rattle.written_tokens.proofs.Spelled.{domains_are_spelled}
-use Rattle.written_tokens.proofs.laws.domain_is_spelled.Goals as goal
-
-pub returns : goal.returns
-returns c = domains_are_spelled

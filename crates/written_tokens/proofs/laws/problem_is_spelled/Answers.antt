@@ -1,5 +1,0 @@
-use Rattle.written_tokens.proofs.Spelled.{problems_are_spelled}
-use Rattle.written_tokens.proofs.laws.problem_is_spelled.Goals as goal
-
-pub returns : goal.returns
-returns c = problems_are_spelled
