@@ -20,12 +20,14 @@ impl<T> Model for Box<T> {
 }
 
 impl<T> Box<T> {
+    /// The value.
     pub fn get(&self) -> &T
         ensures { result.now ≡ self.now }
     {
         self.inner.get()
     }
 
+    /// The value, moved out of its box.
     pub fn into_inner(self) -> T
         ensures { result ≡ self }
     {
@@ -35,6 +37,7 @@ impl<T> Box<T> {
 }
 
 impl<T: Drop> Box<T> {
+    /// A value on the heap. `Memory`: an allocation failed; the value is dropped.
     pub fn new(alloc: Global, value: T) -> Result<Box<T>, Memory>
         ensures { IfOk result (λ b. b ≡ value) }
     {

@@ -25,6 +25,7 @@ impl<T> Model for List<T> {
 }
 
 impl<T> List<T> {
+    /// The empty list. It keeps `alloc` for what is pushed, and allocates nothing.
     pub fn new(alloc: Global) -> List<T>
         ensures { result ≡ [] }
     {
@@ -33,6 +34,7 @@ impl<T> List<T> {
         }
     }
 
+    /// The items of a `Vec`, which are moved.
     pub fn from_vec(items: Vec<T>) -> List<T>
         ensures { result ≡ items.items }
     {
@@ -41,18 +43,21 @@ impl<T> List<T> {
         }
     }
 
+    /// All items, in order.
     pub fn as_slice(&self) -> &[T]
         ensures { result.now ≡ self.now }
     {
         self.items.as_slice()
     }
 
+    /// The number of items.
     pub fn len(&self) -> usize
         ensures { result ≡ length self.now }
     {
         self.items.len()
     }
 
+    /// The item at an index that counts from 0, or `None` behind the last.
     pub fn get(&self, at: usize) -> Option<&T>
         ensures value { option_copied result ≡ slice_get self.now at }
         ensures within { OnSome result (at < length self.now) }
@@ -60,6 +65,7 @@ impl<T> List<T> {
         self.items.get(at)
     }
 
+    /// Takes the last item off, if there is one.
     pub fn pop(&mut self) -> Option<T>
         ensures { MatchOption result ((self.old ≡ []) × (self.new ≡ [])) (λ last. self.old ≡ self.new ++ last ∷ []) }
     {
@@ -68,6 +74,7 @@ impl<T> List<T> {
 }
 
 impl<T: Copy> List<T> {
+    /// Copies of the items. `Memory`: an allocation failed.
     pub fn from_slice(alloc: Global, items: &[T]) -> Result<List<T>, Memory>
         ensures { IfOk result (λ it. it ≡ items.now) }
     {
@@ -77,6 +84,7 @@ impl<T: Copy> List<T> {
 }
 
 impl<T: Drop> List<T> {
+    /// Puts an item last. `Memory`: an allocation failed; the list is as it was, and the item is dropped.
     pub fn push(&mut self, item: T) -> Result<(), Memory>
         ensures ok { OnOk result (self.new ≡ self.old ++ item ∷ []) }
         ensures err { OnErr result (self.new ≡ self.old) }
