@@ -5,8 +5,7 @@ use Rattle.std.specs.Cmp.Lexicographic.{pointwise, bytes_decides}
 use Rattle.std.proofs.lemmas.List.Folds.{list_any-append}
 use Rattle.indexmap.specs.IndexMap.{IndexMap, get, Updates}
 use Rattle.up_text.specs.Names.{is_reserved}
-use Rattle.up_text.specs.Fresh.{is_among, is_free, candidate, with_name}
-use Rattle.up_fresh.specs.Taken.{AreTaken}
+use Rattle.up_text.specs.Fresh.{is_among, is_free, candidate, with_name, AreTaken}
 
 none_more : (reserved among last : Bool) → (not reserved && not among) ≡ false → (not reserved && not (among || last)) ≡ false
 none_more true among last e = refl

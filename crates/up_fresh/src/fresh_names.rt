@@ -1,17 +1,12 @@
 ghost use Rattle.std.specs.Prelude.{◌≡◌, [], ◌∷◌, ◌++◌, not, IsTrue, IfOk, OnOk, OnErr};
 ghost use Rattle.up_text.specs.Names.{is_spelled};
-ghost use Rattle.up_text.specs.Fresh.{is_among, with_name, fresh_name, IsFresh};
-ghost use Rattle.up_fresh.specs.Taken.{AreTaken};
+ghost use Rattle.up_text.specs.Fresh.{is_among, with_name, fresh_name, AreTaken, IsFresh};
 
 use crate::base::Base;
-use crate::search::first_from;
 use indexmap::IndexMap;
 use std::alloc::Global;
 use std::marker::Model;
-use up_text::{Memory, Name, NameSet};
-
-// More names than these fit in no memory.
-const MOST: usize = 0x7fff_ffff_ffff_ffff;
+use up_text::{Memory, Name, NameSet, fresh_from};
 
 /// A set of names that makes fresh ones, which contracts see as the names in the order in which they were added.
 ///
@@ -20,7 +15,6 @@ const MOST: usize = 0x7fff_ffff_ffff_ffff;
 #[derive(Drop)]
 pub struct FreshNames {
     names: NameSet,
-    count: usize,
     last: IndexMap<Base, u64>,
 }
 
@@ -32,7 +26,7 @@ impl Model for FreshNames {
 
     ghost view = { λ fresh. fresh.names };
 
-    ghost invariant = { λ fresh. IsGoing fresh.names fresh.count fresh.last };
+    ghost invariant = { λ fresh. IsGoing fresh.names fresh.last };
 }
 
 impl FreshNames {
@@ -42,25 +36,17 @@ impl FreshNames {
     {
         FreshNames {
             names: NameSet::new(alloc),
-            count: 0,
             last: IndexMap::new(alloc),
         }
     }
 
-    /// Adds the name where it is new, and says whether it was.
+    /// Adds the name where it is new, and says whether it was. `Memory`: an allocation failed; the names are as they were.
     pub fn add(&mut self, name: Name) -> Result<bool, Memory>
         ensures names { OnOk result (self.new ≡ with_name self.old name) }
         ensures added { IfOk result (λ added. added ≡ not (is_among self.old name)) }
         ensures err { OnErr result (self.new ≡ self.old) }
     {
-        if self.count >= MOST {
-            return Err(Memory);
-        }
-        let added = self.names.add(name)?;
-        if added {
-            self.count += 1;
-        }
-        Ok(added)
+        self.names.add(name)
     }
 
     /// Whether the name is among the names.
@@ -72,7 +58,8 @@ impl FreshNames {
 
     /// The first of `base`, `base-1`, `base-2`, .. that is neither among the names nor reserved, which is then among them.
     ///
-    /// The base is spelled as a name in lower case, and may be a reserved word.
+    /// The base is spelled as a name in lower case, and may be a reserved word. `Memory`: an allocation failed; the names are
+    /// as they were.
     pub fn next(&mut self, alloc: Global, base: &[u8]) -> Result<Name, Memory>
         requires { IsTrue (is_spelled base.now) }
         ensures fresh { IfOk result (IsFresh base.now self.old) }
@@ -82,7 +69,7 @@ impl FreshNames {
     {
         let key = Base::of_bytes(alloc, base)?;
         let start = self.start(&key);
-        let found = first_from(alloc, base, start, &self.names)?;
+        let found = fresh_from(alloc, base, start, &self.names)?;
         let name = found.name.copy(alloc)?;
         self.last.insert(key, found.number)?;
         self.add(name)?;

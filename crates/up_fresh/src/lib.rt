@@ -2,10 +2,6 @@
 #![tactic(auto)]
 
 mod base;
-mod candidates;
 mod fresh_names;
-mod search;
-#[cfg(test)]
-mod tests;
 
 pub use fresh_names::FreshNames;

@@ -1,5 +1,5 @@
 use Rattle.std.proofs.Common.{sym, subst}
-use Rattle.up_fresh.specs.Taken.{AreTaken}
+use Rattle.up_text.specs.Fresh.{AreTaken}
 use Rattle.up_fresh.proofs.fresh_names.FreshNames.start.Goals as goal
 
 pub returns-in-Some : goal.returns-in-Some
