@@ -1,17 +1,16 @@
 -- A formula without object functions and comparisons, whose variables are assigned, is true or false.
-use Rattle.std.proofs.Common.{◌≡◌, ◌⊎◌, Bool, true, false, true≢false, List, [], ◌∷◌, map, option_map, Option, Some, None, IsSome, IsSomeAnd, refl, ap, sym, ◌∙◌, subst, inl, inr, ⊎_elim}
-use Rattle.std.specs.FinSet as set
+use Rattle.std.proofs.Common.{◌⊎◌, Bool, true, false, true≢false, List, [], ◌∷◌, map, option_map, Option, Some, None, IsSome, refl, sym, inl, inr}
 use Rattle.up_text.specs.declared.name.Name.{Name}
-use Rattle.up_text.specs.Lists.{Every, Somewhere, Member}
+use Rattle.up_text.specs.Lists.{Every, Member}
 use Rattle.up_tree.specs.declared.term.Term.{Term, Var, Object, Fluent'}
 use Rattle.up_tree.specs.declared.formula.Formula.{Formula, And', Or', Atom, Equal, Compare, Row_of-Formula, end_of-Formula, more_of-Formula}
 use Rattle.up_tree.specs.declared.truth.Truth.{Truth}
 use Rattle.up_tree.specs.declared.truth.Truth.TheVariants as truth
 use Rattle.up_tree.specs.Nodes.{not, imply, exists, forall}
 use Rattle.up_tree.specs.Objects.{World, Assignment, assign, tuples}
-use Rattle.up_tree.specs.State.{State, Ground, ground}
-use Rattle.up_tree.specs.Value.{term_value, values_of, ground_at, with_both}
-use Rattle.up_tree.specs.Truth.{True, False, AllTrue, SomeTrue, AllFalse, SomeFalse}
+use Rattle.up_tree.specs.State.{State, ground}
+use Rattle.up_tree.specs.Value.{term_value, values_of, with_both}
+use Rattle.up_tree.specs.Truth.{True, False}
 use Rattle.up_tree.specs.Judged.{Judges, opposite, both, either, all_of, any_of, of_test, atom_truth, equal_truth, truth_of, truths_of}
 use Rattle.up_tree.specs.Laws.{IsPlainTerm, IsDefined, AreDefined, DefinedDecides}
 use Rattle.up_tree.proofs.Judging.{judged}

@@ -1,29 +1,25 @@
 -- A step that can be taken has one next state, and a run has one last state.
-use Rattle.std.proofs.Common.{◌≡◌, ◌⊎◌, Bool, true, false, ◌&&◌, ◌||◌, not as deny, true≢false, List, [], ◌∷◌, Option, Some, None, IsSome, IsSomeAnd, IsTrue, refl, ap, sym, ◌∙◌, subst, inl, inr, ⊎_elim}
+use Rattle.std.proofs.Common.{◌≡◌, Bool, true, false, ◌&&◌, ◌||◌, not as deny, true≢false, List, [], ◌∷◌, Option, Some, None, IsSomeAnd, refl, ap, sym, ◌∙◌, subst, ⊎_elim}
 use Rattle.std.specs.List.{list_any}
-use Rattle.std.specs.Ordering.{eq_by_cmp, is_eq}
+use Rattle.std.specs.Ordering.{is_eq}
 use Rattle.std.specs.Cmp.{tied_itself}
 use Rattle.std.specs.FinSet as set
 use Rattle.up_text.specs.declared.name.Name.{Name}
-use Rattle.up_text.specs.Lists.{Every, Somewhere, Member}
-use Rattle.up_tree.specs.declared.term.Term.{Term, Var, Object, Fluent', Row_of-Term, end_of-Term, more_of-Term}
-use Rattle.up_tree.specs.declared.formula.Formula.{Formula, And', Or', Atom, Equal, Compare, Row_of-Formula, end_of-Formula, more_of-Formula}
+use Rattle.up_text.specs.Lists.{Member}
+use Rattle.up_tree.specs.declared.formula.Formula.{Formula}
 use Rattle.up_tree.specs.declared.truth.Truth.{Truth}
 use Rattle.up_tree.specs.declared.truth.Truth.TheVariants as truth
 use Rattle.up_tree.specs.declared.action.Action.{Action}
 use Rattle.up_tree.specs.declared.problem.Parts.{Parts}
 use Rattle.up_tree.specs.declared.problem.Step.{Step}
-use Rattle.up_tree.specs.Nodes.{not, imply, exists, forall}
-use Rattle.up_tree.specs.Objects.{World, world, Assignment, assign, tuples, action_named}
-use Rattle.up_tree.specs.State.{State, Ground, Holds, ground_cmp, ground}
-use Rattle.up_tree.specs.Value.{term_value, values_of, ground_at}
-use Rattle.up_tree.specs.Truth.{True, False}
+use Rattle.up_tree.specs.Objects.{World, world, Assignment, action_named}
+use Rattle.up_tree.specs.State.{State, Ground}
 use Rattle.up_tree.specs.Judged.{Judges, truth_of, is_true}
-use Rattle.up_tree.specs.Instances.{Fired, Instance, Fires, firing}
+use Rattle.up_tree.specs.Instances.{Instance, Fires, firing}
 use Rattle.up_tree.specs.Changes.{added, deleted, is_at, of_firing, changed}
 use Rattle.up_tree.specs.Faults.{Fault, unknown, Applies, CanTake, IsNext, ActionApplies, NoAction}
 use Rattle.up_tree.specs.Plans.{RunsFrom, OfLast}
-use Rattle.up_tree.specs.Laws.{NeverBoth, IsOne, AlwaysOne, NextIsOne, NextIsThere, AddWins}
+use Rattle.up_tree.specs.Laws.{NeverBoth, AlwaysOne, NextIsOne, NextIsThere, AddWins}
 use Rattle.up_tree.proofs.Apart.{apart}
 use Rattle.up_tree.proofs.Judging.{judged}
 use Rattle.up_tree.proofs.States.{ground_total, contains-changed}

@@ -1,6 +1,5 @@
 -- Laws of truth and of steps.
-use Rattle.std.specs.Prelude.{◌≡◌, ◌⊎◌, ⊤, List, [], ◌∷◌, IsSome, IsTrue}
-use Rattle.std.specs.FinSet as set
+use Rattle.std.specs.Prelude.{◌≡◌, ◌⊎◌, ⊤, List, IsSome}
 use Rattle.up_text.specs.Lists.{Every, Member}
 use Rattle.up_tree.specs.declared.term.Term.{Term, Var, Object, Fluent'}
 use Rattle.up_tree.specs.declared.formula.Formula.{Formula, And', Or', Atom, Equal, Compare, Row_of-Formula, end_of-Formula, more_of-Formula}

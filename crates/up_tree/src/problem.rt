@@ -13,19 +13,21 @@ use std::marker::Model;
 use up_frac::Frac;
 use up_text::{List, Name};
 
+/// A predicate, with the types of its arguments.
 #[derive(Debug, Drop)]
 pub struct Predicate {
     pub name: Name,
     pub args: List<Name>,
 }
 
-/// What a function gives.
+/// What a function gives: a number, or an object of a type.
 #[derive(Debug, Drop)]
 pub enum Gives {
     Number,
     Object(Name),
 }
 
+/// A function, with the types of its arguments.
 #[derive(Debug, Drop)]
 pub struct Function {
     pub name: Name,
@@ -33,14 +35,14 @@ pub struct Function {
     pub gives: Gives,
 }
 
-/// An initial atom.
+/// An atom that is true initially.
 #[derive(Debug, Drop)]
 pub struct Fact {
     pub predicate: Name,
     pub args: List<Name>,
 }
 
-/// An initial number.
+/// The number that a function has initially.
 #[derive(Drop)]
 pub struct NumberFact {
     pub function: Name,
@@ -48,7 +50,7 @@ pub struct NumberFact {
     pub value: Frac,
 }
 
-/// An initial object.
+/// The object that a function has initially.
 #[derive(Debug, Drop)]
 pub struct ValueFact {
     pub function: Name,
@@ -56,13 +58,15 @@ pub struct ValueFact {
     pub value: Name,
 }
 
+/// What a plan is to make least or greatest: the value of an expression in its last state.
 #[derive(Drop)]
 pub struct Metric {
     pub minimize: bool,
     pub value: Expr,
 }
 
-/// What a run has to keep.
+/// A trajectory constraint (PDDL 3.0 and 3.1: `always`, `sometime`, `at-most-once`, `sometime-after`, `sometime-before`), which
+/// the states of a plan's run have to keep.
 #[derive(Drop)]
 pub enum Rule {
     Always(Formula),
@@ -72,13 +76,14 @@ pub enum Rule {
     SometimeBefore(Formula, Formula),
 }
 
-/// A rule for each typed tuple of `vars`.
+/// A trajectory constraint for each typed tuple of `vars`.
 #[derive(Drop)]
 pub struct Constraint {
     pub vars: List<Typed>,
     pub rule: Rule,
 }
 
+/// The parts of a problem. Types stand beside their parents, objects beside their types.
 #[derive(Drop)]
 pub struct Parts {
     pub domain: Name,
@@ -98,7 +103,7 @@ pub struct Parts {
     pub constraints: List<Constraint>,
 }
 
-/// A problem.
+/// A problem, which contracts see as its parts.
 #[derive(Drop)]
 pub struct Problem {
     parts: Parts,
@@ -120,12 +125,14 @@ impl Model for Problem {
 }
 
 impl Problem {
+    /// The problem of these parts.
     pub fn new(parts: Parts) -> Problem
         ensures { result ≡ parts }
     {
         Problem { parts }
     }
 
+    /// Its parts.
     pub fn parts(&self) -> &Parts
         ensures { result.now ≡ self.now }
     {
@@ -139,7 +146,7 @@ impl Problem {
         action_sizes(self.parts().actions.as_slice()).saturating_add(self.parts().goal.size())
     }
 
-    /// Whether a type is `above` or stands below it.
+    /// Whether the type `below` is `above`, or has it among its parents.
     pub fn is_below(&self, below: &Name, above: &Name) -> bool
         ensures { result ≡ is_below (world self.now) below.now above.now }
     {
@@ -147,7 +154,7 @@ impl Problem {
         reaches(types, types.len(), below, above)
     }
 
-    /// Whether an object's type is `of` or stands below it.
+    /// Whether an object's type is `of` or stands below it. No for what is no object.
     pub fn is_of(&self, object: &Name, of: &Name) -> bool
         ensures { result ≡ is_of (world self.now) object.now of.now }
     {
@@ -196,12 +203,14 @@ fn reaches(types: &[Typed], left: usize, below: &Name, above: &Name) -> bool
     }
 }
 
+/// A step of a plan: an action at objects.
 #[derive(Debug, Drop)]
 pub struct Step {
     pub action: Name,
     pub args: List<Name>,
 }
 
+/// A plan: its steps in order.
 #[derive(Debug, Drop)]
 pub struct Plan {
     pub steps: List<Step>,
