@@ -17,7 +17,7 @@ use Rattle.pddl_lex.proofs.Standing.{none_bad}
 use Rattle.pddl_lex.specs.Items.{Item, items_from, items}
 use Rattle.pddl_lex.specs.Places.{is_in_line, place_behind, after_byte}
 use Rattle.pddl_lex.proofs.PlaceLemmas.{place_step, places_on, place_start}
-use Rattle.pddl_lex.specs.Spells.{Stands, nothing, blank, comment, token, bad_byte, bad_number, stops, has_decimals, IsLongFraction, no_more, all_digits, IsWrong, too_long, too_parsed, followed, IsBadUnsigned, IsBadNumber, bad_plain, bad_negative, IsName, IsFraction, none, digits, IsUnsigned, plain, negative, HasShape, Ends}
+use Rattle.pddl_lex.specs.Spells.{Stands, nothing, blank, comment, token, bad_byte, bad_number, stops, has_decimals, IsLongFraction, no_more, all_digits, IsWrong, too_long, too_many_places, followed, IsBadUnsigned, IsBadNumber, bad_plain, bad_negative, IsName, IsFraction, none, digits, IsUnsigned, plain, negative, HasShape, Ends}
 use Rattle.pddl_lex.proofs.Lexing.{passed_over}
 
 not_false : (b : Bool) → not b ≡ false → b ≡ true
@@ -239,7 +239,7 @@ is_wrong : (before whole fraction : ℕ) (rest : List ℕ) → IsWrong (before +
     → (is_name_byte (first rest) || first rest == 46 || nat_lt 18 (before + whole + (fraction - min fraction 1)) || nat_lt 10 fraction) ≡ true
 is_wrong before whole fraction rest (too_long more) =
     or_left (nat_lt 10 fraction) (or_right (is_name_byte (first rest) || first rest == 46) (is_above 18 _ (omega (arith, more))))
-is_wrong before whole fraction rest (too_parsed more) = or_right _ (is_above 10 fraction (omega (arith, more)))
+is_wrong before whole fraction rest (too_many_places more) = or_right _ (is_above 10 fraction (omega (arith, more)))
 is_wrong before whole fraction rest (followed is) =
     or_left (nat_lt 10 fraction) (or_left (nat_lt 18 (before + whole + (fraction - min fraction 1))) (followed_first (λ byte. is_name_byte byte || byte == 46) rest is))
 

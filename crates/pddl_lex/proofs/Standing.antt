@@ -15,7 +15,7 @@ use Rattle.pddl_lex.specs.declared.tree.Sign.TheVariants.{Minus, Plus, Times, Sl
 use Rattle.pddl_lex.specs.Bytes.{is_blank, is_letter, is_digit, is_name_byte, first, front_length}
 use Rattle.pddl_lex.specs.Next.{next, sign, minus, sign_or, name_behind, number, fraction_length}
 use Rattle.pddl_lex.specs.Places.{is_in_line}
-use Rattle.pddl_lex.specs.Spells.{stops, IsName, IsFraction, none, digits, IsUnsigned, IsNumber, plain, negative, HasShape, Ends, sign_bytes, has_decimals, IsLongFraction, no_more, all_digits, IsWrong, too_long, too_parsed, followed, IsBadUnsigned, IsBadNumber, bad_plain, bad_negative, BeginsNone}
+use Rattle.pddl_lex.specs.Spells.{stops, IsName, IsFraction, none, digits, IsUnsigned, IsNumber, plain, negative, HasShape, Ends, sign_bytes, has_decimals, IsLongFraction, no_more, all_digits, IsWrong, too_long, too_many_places, followed, IsBadUnsigned, IsBadNumber, bad_plain, bad_negative, BeginsNone}
 
 -- what an if gives has a property that both of its sides have
 by_case : {T : Type 0} (P : T → Type 0) (b : Bool) (x y : T) → (b ≡ true → P x) → (b ≡ false → P y) → P (if b then x else y)
@@ -218,7 +218,7 @@ here_wrong : (ahead whole fraction whole' fraction' : ℕ) (rest : List ℕ) →
     → IsWrong (ahead + whole' + (fraction' - 1)) (fraction' - 1) rest
 here_wrong ahead whole fraction whole' fraction' rest same_whole same_fraction is =
     let last : (nat_lt 10 fraction ≡ true) → IsWrong (ahead + whole' + (fraction' - 1)) (fraction' - 1) rest = λ h.
-    let more = above 10 fraction h in too_parsed (omega (arith, more, same_fraction)) in
+    let more = above 10 fraction h in too_many_places (omega (arith, more, same_fraction)) in
     let middle : (nat_lt 18 (ahead + whole + (fraction - min fraction 1)) ≡ true) → IsWrong (ahead + whole' + (fraction' - 1)) (fraction' - 1) rest = λ h.
     let more = above 18 _ h in too_long (omega (arith, more, same_whole, same_fraction)) in
     elim (or_cases _ (nat_lt 10 fraction) is) [

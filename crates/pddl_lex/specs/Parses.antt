@@ -1,7 +1,7 @@
--- What a walk over a tree has found: what it read, or its faults in the order of the walk.
+-- What the traversal of a tree gives: the value of its parse, or its faults in the order of the traversal.
 use Rattle.std.specs.Prelude.{List, [], ◌∷◌, ◌++◌, Option, Some, None}
 
--- a value, or at least one fault
+-- the parsed value, or at least one fault
 pub data Parse (F A : Type 0) : Type 0 where
   parsed : A → Parse F A
   rejected : F → List F → Parse F A
@@ -35,7 +35,7 @@ abbrev pub all : {F A : Type 0} → List (Parse F A) → Parse F (List A)
 all [] = parsed []
 all (v ∷ vs) = over_two (λ x xs. x ∷ xs) v (all vs)
 
--- the fault at which a walk stops
+-- the fault at which a traversal stops
 abbrev pub first : {F A : Type 0} → Parse F A → Option F
 first (parsed a) = None
 first (rejected f fs) = Some f

@@ -96,7 +96,7 @@ pub data IsLongFraction (bytes rest : List ℕ) : Type 0 where
 -- a number of so many digits, so many of them behind its point, that is none before the rest
 pub data IsWrong (count places : ℕ) (rest : List ℕ) : Type 0 where
   too_long : 18 < count → IsWrong count places rest
-  too_parsed : 9 < places → IsWrong count places rest
+  too_many_places : 9 < places → IsWrong count places rest
   followed : stops (λ byte. is_name_byte byte || byte == 46) rest ≡ false → IsWrong count places rest
 
 -- digits and then a fraction, as many as stand there, but no number before the rest

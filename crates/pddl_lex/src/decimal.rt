@@ -4,8 +4,8 @@ ghost use Rattle.pddl_lex.specs.Bytes.{is_digit};
 ghost use Rattle.pddl_lex.specs.Decimals.{literal, over_tens, signed, first_digit, with_digits};
 ghost use Rattle.pddl_lex.specs.Spells.{IsNumber, IsNumberByte};
 
-use crate::bytes::digit_length;
 use up_frac::Frac;
+use up_text::digit_length;
 
 // A number with more digits behind its own.
 fn with_digits(number: u64, digits: &[u8]) -> u64

@@ -23,7 +23,7 @@ fn add_token(token: Option<Token>, tokens: &mut List<Token>) -> Result<(), Memor
 }
 
 /// The tokens of a text, each with its place: names, variables, keywords, numbers and signs of PDDL (PDDL 2.1, Fox and
-/// Long 2003, appendix A), with letters folded to lower case. A comment runs from `;` to the end of its line and may hold
+/// Long 2003, appendix A), with letters in lower case. A comment runs from `;` to the end of its line and may hold
 /// any bytes.
 ///
 /// A byte that begins no token is a BadByte. A number of more than 18 digits or more than 9 behind its point, or one

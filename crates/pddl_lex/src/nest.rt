@@ -23,6 +23,7 @@ pub struct Nest {
 }
 
 impl Nest {
+    /// No bracket is open, and no tree stands there.
     pub fn new(alloc: Global) -> Nest
         ensures { seen result ≡ empty_nest }
     {
@@ -94,8 +95,16 @@ impl Nest {
         ensures { ¬ (result ≡ Err LexError.Memory) → seen_result result ≡ with_token is_too_deep (seen self) token }
     {
         match &token.kind {
-            TokenKind::Open => self.opened(alloc, token.place),
-            TokenKind::Close => self.closed(token.place),
+            TokenKind::Open => {
+                let place = token.place;
+                drop(token);
+                self.opened(alloc, place)
+            }
+            TokenKind::Close => {
+                let place = token.place;
+                drop(token);
+                self.closed(place)
+            }
             _ => Ok(self.with_leaf(token)?),
         }
     }

@@ -2,10 +2,9 @@ ghost use Rattle.std.specs.Prelude.{◌≡◌, ◌≤◌, length};
 ghost use Rattle.pddl_lex.specs.Next.{next, name_behind, number, fraction_length, sign_or, sign, minus, more_of};
 
 use crate::Sign;
-use crate::bytes::{
-    digit_length, first, is_blank, is_digit, is_letter, is_name_byte, line_length, name_length,
-};
+use crate::bytes::line_length;
 use crate::shape::{Next, Shape};
+use up_text::{digit_length, first, is_blank, is_digit, is_letter, is_name_byte, name_length};
 
 // A name behind its mark.
 #[tactic(auto, unfolding(crate::specs::Next::name_behind))]

@@ -4,11 +4,10 @@ ghost use Rattle.pddl_lex.specs.Items.{kind_of};
 ghost use Rattle.pddl_lex.specs.Spells.{HasShape};
 
 use crate::TokenKind;
-use crate::bytes::fold_byte;
 use crate::decimal::literal;
 use crate::shape::Shape;
 use std::alloc::Global;
-use up_text::{List, Memory};
+use up_text::{List, Memory, fold_byte};
 
 // Some bytes in lower case behind others.
 fn add_folded(bytes: &[u8], folded: &mut List<u8>) -> Result<(), Memory>

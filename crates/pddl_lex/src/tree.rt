@@ -4,6 +4,7 @@ ghost use Rattle.pddl_lex.specs.Trees.{place_of};
 use up_frac::Frac;
 use up_text::{List, Place};
 
+/// A sign: `-`, `+`, `*`, `/`, `<`, `<=`, `=`, `>=` or `>`.
 #[derive(Clone, Copy, Debug, PartialEq, Eq)]
 pub enum Sign {
     Minus,
@@ -17,7 +18,7 @@ pub enum Sign {
     Greater,
 }
 
-/// What a token is. Letters are folded.
+/// What a token is. Letters are in lower case; the `?` of a variable and the `:` of a keyword are left out.
 #[derive(Drop)]
 pub enum TokenKind {
     Open,
@@ -29,13 +30,14 @@ pub enum TokenKind {
     Sign(Sign),
 }
 
+/// A token, and the place of its first byte.
 #[derive(Drop)]
 pub struct Token {
     pub kind: TokenKind,
     pub place: Place,
 }
 
-/// A bracket tree.
+/// A bracket tree: a token, or a group with the place of its `(`.
 #[derive(Drop)]
 pub enum Sexp {
     Leaf(Token),
