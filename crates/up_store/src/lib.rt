@@ -18,6 +18,3 @@ pub use sink::{Sink, SinkFailed};
 pub use std_sink::StdSink;
 pub use store::{INPUT_LIMIT, ReadFail, Store, WriteFail};
 pub use word::{Word, WordError};
-
-#[cfg(test)]
-mod tests;

@@ -59,7 +59,7 @@ impl From<Memory> for WriteFail {
     }
 }
 
-/// Texts under names.
+/// Texts under names, as files in a folder.
 pub trait Store {
     /// What is held under each name, where the store tells it.
     ghost held: { Self → Option Files };
@@ -76,7 +76,8 @@ pub trait Store {
     /// How often a write of each name failed.
     ghost losses: { Self → List ℕ → ℕ };
 
-    /// The text under a name.
+    /// The text under a name. `Memory`: an allocation failed; `Failed`: the store did; `Missing`: nothing is held under the name;
+    /// `TooLarge`: the text is longer than `INPUT_LIMIT`.
     fn read(&mut self, alloc: Global, name: &Word) -> Result<Vec<u8>, ReadFail>
         ensures kept { held self.new ≡ held self.old }
         ensures answers { IfSome (held self.old) (λ files. ReadAnswers (files name.now) result) }
@@ -88,7 +89,8 @@ pub trait Store {
         ensures larges { NoneFalls (larges self.old) (larges self.new) }
         ensures losses { losses self.new ≡ losses self.old };
 
-    /// Puts a text under a name.
+    /// Puts a text under a name, in place of what is held there. `Memory`: an allocation failed, and nothing was written;
+    /// `Failed`: the store did, and a prefix of the text may stand.
     fn write(&mut self, alloc: Global, name: &Word, bytes: &[u8]) -> Result<(), WriteFail>
         ensures written { OnOk result (held self.new ≡ held_with name.now bytes.now (held self.old)) }
         ensures memory { IsErrOf result WriteFail.Memory → held self.new ≡ held self.old }

@@ -43,7 +43,7 @@ impl From<Memory> for WordError {
 }
 
 impl Word {
-    /// The word with these bytes.
+    /// The word with these bytes. `NotText`: they aren't UTF-8; `Memory`: an allocation failed.
     pub fn read(alloc: Global, bytes: &[u8]) -> Result<Word, WordError>
         ensures ok { IfOk result (λ word. (word ≡ bytes.now) × IsUtf8 bytes.now) }
         ensures not_text { IsErrOf result WordError.NotText ↔ (¬ IsUtf8 bytes.now) }
