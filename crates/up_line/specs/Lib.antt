@@ -1,3 +1,4 @@
+pub mod Piecewise
 pub mod Sheet
 pub mod Spaced
 pub mod Steps

@@ -2,7 +2,9 @@
 #![tactic(auto)]
 
 mod line;
+mod piecewise;
 mod steps;
 
 pub use line::Line;
+pub use piecewise::Piecewise;
 pub use steps::{Steps, longest_piece, whole_text};

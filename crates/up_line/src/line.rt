@@ -92,6 +92,7 @@ impl Line {
         &self.bytes
     }
 
+    /// The same, moved out of the line.
     pub fn into_bytes(self) -> Vec<u8>
         ensures { result.items ≡ self.text }
     {

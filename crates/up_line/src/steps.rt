@@ -25,7 +25,7 @@ pub trait Steps: Copy {
         ensures put { IsTrue result → line.new ≡ after line.old (piece self.old) };
 }
 
-/// The length of the longest piece.
+/// The length of the longest piece, in bytes, or 0 where there is none. `Memory`: a piece is longer than can be counted.
 #[tactic(auto, using(crate::proofs::Sheets::measures), unfolding(crate::specs::Steps::longest))]
 pub fn longest_piece<S: Steps>(alloc: Global, steps: S) -> Result<usize, Memory>
     ensures { IfOk result (λ n. n ≡ longest (S.pieces steps)) }
@@ -44,7 +44,7 @@ pub fn longest_piece<S: Steps>(alloc: Global, steps: S) -> Result<usize, Memory>
     Ok(most)
 }
 
-/// The whole text.
+/// The whole text, in one allocation. `Memory`: it failed, or the text is longer than can be counted.
 #[tactic(auto, using(crate::proofs::Sheets::measures))]
 pub fn whole_text<S: Steps>(alloc: Global, steps: S) -> Result<Vec<u8>, Memory>
     ensures { IfOk result (λ text. text.items ≡ concat (S.pieces steps)) }
