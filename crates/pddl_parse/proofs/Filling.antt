@@ -34,13 +34,19 @@ pub put_more : (parts : ProblemParts) (s : ProblemSection) (v : Read (List Probl
 put_more parts s (parsed ss) = refl
 put_more parts s (rejected f fs) = refl
 
+pub sections_next_more : (form form_more : DomainForm) (v : Read DomainSection) (w : Read (List DomainSection))
+    → over (with_section form) v ≡ parsed form_more
+    → over (with_sections form) (over_two (λ s ss. s ∷ ss) v w) ≡ over (with_sections form_more) w
+sections_next_more form form_more (parsed s) w e = let same : with_section form s ≡ form_more = cc in rw (← same) (sections_more form s w)
+sections_next_more form form_more (rejected f fs) w e = cc
+
 -- the same in a loop, which stands at an index
-pub domain_on : (items : List Sexp) (at : ℕ) (form form_more : DomainForm) (x : Sexp) (s : DomainSection)
-    → at < length items → x ≡ get_or items at x → domain_section (take at items) x ≡ parsed s → form_more ≡ with_section form s
+pub domain_on : (items : List Sexp) (at : ℕ) (form form_more : DomainForm) (x : Sexp)
+    → at < length items → x ≡ get_or items at x → over (with_section form) (domain_section (take at items) x) ≡ parsed form_more
     → over (with_sections form) (domain_sections (take at items) (drop at items))
     ≡ over (with_sections form_more) (domain_sections (take (at + 1) items) (drop (at + 1) items))
-domain_on items at form form_more x s within is e more =
-    rw (more, take_more items at x within, drop_more items at x within, ← is, e) (sections_more form s _)
+domain_on items at form form_more x within is e =
+    rw (take_more items at x within, drop_more items at x within, ← is) (sections_next_more form form_more (domain_section (take at items) x) _ e)
 
 pub domain_off : (items : List Sexp) (at : ℕ) (form : DomainForm) (x : Sexp) (fault : ShapeError)
     → at < length items → x ≡ get_or items at x → first (domain_section (take at items) x) ≡ Some fault

@@ -1,6 +1,6 @@
 ghost use Rattle.std.specs.Prelude.{◌≡◌, [], Some, IfOk, IfErr, OnOk, OnErr};
 ghost use Rattle.pddl_lex.specs.Parses.{parsed, first, over};
-ghost use Rattle.pddl_parse.specs.Sections.{domain_sections};
+ghost use Rattle.pddl_parse.specs.Sections.{domain_section, domain_sections};
 ghost use Rattle.pddl_parse.specs.Texts.{bare_domain, with_section, with_sections, in_domain_text, domain_text, domain};
 
 use crate::raw::{DomainForm, Ident, RawAction, RawConstraint};
@@ -9,6 +9,7 @@ use crate::shape::{ShapeError, misfit, misfit_group, no_extra};
 use crate::title::{expect_word, title};
 use pddl_lex::Sexp;
 use std::alloc::Global;
+use std::mem::replace;
 use up_text::{List, Place};
 
 fn bare_domain(alloc: Global, name: Ident) -> DomainForm
@@ -30,8 +31,13 @@ fn with_action(form: DomainForm, action: RawAction) -> Result<DomainForm, ShapeE
     ensures err { IfErr result (λ e. e ≡ ShapeError.Memory) }
 {
     let mut form = form;
-    form.actions.push(action)?;
-    Ok(form)
+    match form.actions.push(action) {
+        Ok(()) => Ok(form),
+        Err(_) => {
+            drop(form);
+            Err(ShapeError::Memory)
+        }
+    }
 }
 
 fn with_section(form: DomainForm, section: DomainSection) -> Result<DomainForm, ShapeError>
@@ -59,13 +65,31 @@ fn with_section(form: DomainForm, section: DomainSection) -> Result<DomainForm, 
         }
         DomainSection::Action(action) => with_action(form, action),
         DomainSection::Constraints(constraints) => {
-            form.constraints = constraints;
+            drop(replace(&mut form.constraints, constraints));
             Ok(form)
         }
     }
 }
 
-// One more section.
+// One more section, behind others.
+fn with_next(
+    alloc: Global,
+    form: DomainForm,
+    before: &[Sexp],
+    item: &Sexp,
+) -> Result<DomainForm, ShapeError>
+    ensures ok { IfOk result (λ it. over (with_section form) (domain_section before.now item.now) ≡ parsed it) }
+    ensures err { IfErr result (λ e. ¬ (e ≡ ShapeError.Memory) → first (domain_section before.now item.now) ≡ Some e) }
+{
+    match domain_section(alloc, before, item) {
+        Ok(section) => with_section(form, section),
+        Err(fault) => {
+            drop(form);
+            Err(fault)
+        }
+    }
+}
+
 #[tactic(auto, using(crate::proofs::Steps::steps, crate::proofs::Filling::filling))]
 fn with_sections(alloc: Global, start: DomainForm, items: &[Sexp]) -> Result<DomainForm, ShapeError>
     ensures ok { IfOk result (λ it. over (with_sections start) (domain_sections [] items.now) ≡ parsed it) }
@@ -73,8 +97,7 @@ fn with_sections(alloc: Global, start: DomainForm, items: &[Sexp]) -> Result<Dom
 {
     let mut form = start;
     for at in 0..items.len() {
-        let section = domain_section(alloc, &items[..at], &items[at])?;
-        form = with_section(form, section)?;
+        form = with_next(alloc, form, &items[..at], &items[at])?;
     }
     Ok(form)
 }
@@ -122,6 +145,11 @@ pub fn domain_form(alloc: Global, trees: &List<Sexp>) -> Result<DomainForm, Shap
         });
     };
     let form = domain_text(alloc, tree)?;
-    no_extra(others)?;
-    Ok(form)
+    match no_extra(others) {
+        Ok(()) => Ok(form),
+        Err(fault) => {
+            drop(form);
+            Err(fault)
+        }
+    }
 }

@@ -92,9 +92,21 @@ fn change_effect(
         return Err(ShapeError::Expected { place });
     };
     let target = call(alloc, one)?;
-    let value = new_value(alloc, c, two)?;
-    no_extra(others)?;
-    Ok(changed(c, target, value))
+    let value = match new_value(alloc, c, two) {
+        Ok(value) => value,
+        Err(fault) => {
+            drop(target);
+            return Err(fault);
+        }
+    };
+    match no_extra(others) {
+        Ok(()) => Ok(changed(c, target, value)),
+        Err(fault) => {
+            drop(target);
+            drop(value);
+            Err(fault)
+        }
+    }
 }
 
 #[tactic(auto, using(crate::proofs::Steps::steps))]
@@ -139,8 +151,13 @@ fn where_true(
     ensures ok { IfOk result (λ it. followed (parsed (RawEffect.When condition body)) (extra others.now) ≡ parsed it) }
     ensures err { IfErr result (λ e. ¬ (e ≡ ShapeError.Memory) → first (followed (parsed (RawEffect.When condition body)) (extra others.now)) ≡ Some e) }
 {
-    no_extra(others)?;
-    Ok(RawEffect::When(condition, body))
+    match no_extra(others) {
+        Ok(()) => Ok(RawEffect::When(condition, body)),
+        Err(fault) => {
+            drop(condition);
+            Err(fault)
+        }
+    }
 }
 
 #[cycle(effect)]
@@ -173,8 +190,20 @@ fn conditional(alloc: Global, place: Place, rest: &[Sexp]) -> Result<RawEffect, 
         return Err(ShapeError::Expected { place });
     };
     let condition = raw_formula(alloc, one)?;
-    let body = boxed(alloc, raw_effect(alloc, two)?)?;
-    where_true(condition, body, others)
+    let body = match raw_effect(alloc, two) {
+        Ok(body) => body,
+        Err(fault) => {
+            drop(condition);
+            return Err(fault);
+        }
+    };
+    match boxed(alloc, body) {
+        Ok(body) => where_true(condition, body, others),
+        Err(fault) => {
+            drop(condition);
+            Err(fault)
+        }
+    }
 }
 
 #[cycle(effect)]

@@ -60,8 +60,13 @@ fn negated(alloc: Global, body: RawFormula, others: &[Sexp]) -> Result<RawFormul
     ensures ok { IfOk result (λ it. followed (parsed (RawFormula.Not body)) (extra others.now) ≡ parsed it) }
     ensures err { IfErr result (λ e. ¬ (e ≡ ShapeError.Memory) → first (followed (parsed (RawFormula.Not body)) (extra others.now)) ≡ Some e) }
 {
-    no_extra(others)?;
-    Ok(RawFormula::Not(Box::new(alloc, body)?))
+    match no_extra(others) {
+        Ok(()) => Ok(RawFormula::Not(Box::new(alloc, body)?)),
+        Err(fault) => {
+            drop(body);
+            Err(fault)
+        }
+    }
 }
 
 #[cycle(formula)]
@@ -134,7 +139,10 @@ fn quantify(
     ensures ok { IfOk result (λ it. followed (parsed (quantify quantifier vars body)) (extra others.now) ≡ parsed it) }
     ensures err { IfErr result (λ e. ¬ (e ≡ ShapeError.Memory) → first (followed (parsed (quantify quantifier vars body)) (extra others.now)) ≡ Some e) }
 {
-    no_extra(others)?;
+    if let Err(fault) = no_extra(others) {
+        drop(body);
+        return Err(fault);
+    }
     let body = Box::new(alloc, body)?;
     match quantifier {
         Quantifier::Exists => Ok(RawFormula::Exists(vars, body)),
@@ -159,9 +167,21 @@ fn comparison(
         return Err(ShapeError::Expected { place });
     };
     let a = raw_term(alloc, one)?;
-    let b = raw_term(alloc, two)?;
-    no_extra(others)?;
-    Ok(RawFormula::Compare(place, relation, a, b))
+    let b = match raw_term(alloc, two) {
+        Ok(b) => b,
+        Err(fault) => {
+            drop(a);
+            return Err(fault);
+        }
+    };
+    match no_extra(others) {
+        Ok(()) => Ok(RawFormula::Compare(place, relation, a, b)),
+        Err(fault) => {
+            drop(a);
+            drop(b);
+            Err(fault)
+        }
+    }
 }
 
 /// A condition in a box.

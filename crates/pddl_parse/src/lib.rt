@@ -33,6 +33,3 @@ pub use raw::{
 pub use shape::ShapeError;
 pub use term::raw_term;
 pub use typed::variables;
-
-#[cfg(test)]
-mod tests;

@@ -10,6 +10,7 @@ use crate::shape::{ShapeError, misfit, misfit_group, no_extra};
 use crate::title::{expect_word, title};
 use pddl_lex::Sexp;
 use std::alloc::Global;
+use std::mem::replace;
 use up_text::{Box, List, Place};
 
 /// What has been read of a problem text.
@@ -61,17 +62,17 @@ fn put_section(parts: ProblemParts, section: ProblemSection) -> ProblemParts
             parts
         }
         ProblemSection::Constraints(constraints) => {
-            parts.constraints = constraints;
+            drop(replace(&mut parts.constraints, constraints));
             parts
         }
         ProblemSection::Metric(metric) => {
-            parts.metric = Some(metric);
+            drop(replace(&mut parts.metric, Some(metric)));
             parts
         }
     }
 }
 
-// One more section: the parts are handed on, so that a fault leaves none to be dropped in the loop.
+// One more section.
 fn put_next(
     alloc: Global,
     parts: ProblemParts,
@@ -83,7 +84,10 @@ fn put_next(
 {
     match problem_section(alloc, before, item) {
         Ok(section) => Ok(put_section(parts, section)),
-        Err(fault) => Err(fault),
+        Err(fault) => {
+            drop(parts);
+            Err(fault)
+        }
     }
 }
 
@@ -117,9 +121,13 @@ fn complete(place: Place, parts: ProblemParts) -> Result<ProblemForm, ShapeError
         metric,
     } = parts;
     let Some(domain) = domain else {
+        drop(constraints);
+        drop(metric);
         return Err(ShapeError::Expected { place });
     };
     let Some(goal) = goal else {
+        drop(constraints);
+        drop(metric);
         return Err(ShapeError::Expected { place });
     };
     Ok(ProblemForm {
@@ -184,6 +192,11 @@ pub fn problem_form(alloc: Global, trees: &List<Sexp>) -> Result<ProblemForm, Sh
         });
     };
     let form = problem_text(alloc, tree)?;
-    no_extra(others)?;
-    Ok(form)
+    match no_extra(others) {
+        Ok(()) => Ok(form),
+        Err(fault) => {
+            drop(form);
+            Err(fault)
+        }
+    }
 }

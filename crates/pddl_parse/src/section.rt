@@ -87,8 +87,13 @@ fn constraint_alone(alloc: Global, place: Place, rest: &[Sexp]) -> Result<RawCon
         return Err(ShapeError::Expected { place });
     };
     let read = whole_constraint(alloc, tree)?;
-    no_extra(others)?;
-    Ok(read)
+    match no_extra(others) {
+        Ok(()) => Ok(read),
+        Err(fault) => {
+            drop(read);
+            Err(fault)
+        }
+    }
 }
 
 #[tactic(auto, using(crate::proofs::Steps::steps))]

@@ -1,6 +1,6 @@
-use crate::*;
 use std::cmp::Ordering;
 use std::test::Fail;
+use up_frac::{Frac, FracError};
 
 #[test]
 fn fractions_are_exact(rt: HostRuntime) -> Result<(), Fail> {

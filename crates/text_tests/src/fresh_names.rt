@@ -1,5 +1,5 @@
-use crate::FreshNames;
 use std::process::Abort;
+use up_fresh::FreshNames;
 use up_text::Name;
 
 fn name(rt: &(impl Abort + AllocGlobal), text: &str) -> Name {

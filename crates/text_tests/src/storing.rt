@@ -1,38 +1,9 @@
-ghost use Rattle.std.specs.Prelude.{◌≡◌, ◌≢◌, ◌↔◌, [], ◌++◌, IsTrue};
-
-use crate::{
-    Failing, FolderStore, INPUT_LIMIT, MemorySink, MemoryStore, Pieces, ReadFail, Sink, SinkFailed,
+use crate::threes::Threes;
+use up_store::{
+    Failing, FolderStore, INPUT_LIMIT, MemorySink, MemoryStore, ReadFail, Sink, SinkFailed,
     StdSink, Store, Word, WordError, WriteFail,
 };
 use up_text::List;
-
-// A text in pieces of three bytes.
-#[derive(Drop)]
-struct Threes<'a> {
-    left: &'a [u8],
-    piece: &'a [u8],
-}
-
-impl<'a> Pieces for Threes<'a> {
-    ghost rest = { λ s. s.left.now };
-
-    ghost current = { λ s. s.piece.now };
-
-    fn advance(&mut self) -> bool {
-        let count = self.left.len().min(3);
-        if count == 0 {
-            return false;
-        }
-        let (piece, left) = self.left.split_at(count);
-        self.piece = piece;
-        self.left = left;
-        true
-    }
-
-    fn piece(&self) -> &[u8] {
-        self.piece
-    }
-}
 
 #[test]
 fn fails_as_planned(rt: HostRuntime) {
@@ -56,19 +27,13 @@ fn fails_as_planned(rt: HostRuntime) {
     for _ in 1..5 {
         assert_eq!(rt; store.write(alloc, &name, b"old"), Ok(()));
     }
-    let mut pieces = Threes {
-        left: text,
-        piece: b"",
-    };
+    let mut pieces = Threes::new(text);
     assert_eq!(rt;
         store.write_pieces(alloc, &name, &mut pieces),
         Err(WriteFail::Failed)
     );
     assert_eq!(rt; store.get(&name), Some(&text[..10]));
-    let mut pieces = Threes {
-        left: text,
-        piece: b"",
-    };
+    let mut pieces = Threes::new(text);
     assert_eq!(rt; store.write_pieces(alloc, &name, &mut pieces), Ok(()));
     assert_eq!(rt; store.get(&name), Some(text));
 }
@@ -98,22 +63,25 @@ fn puts_what_fits(rt: HostRuntime) {
 }
 
 #[test]
-fn meets_the_outside(rt: HostRuntime) {
+fn a_file_is_written_and_read_again(rt: HostRuntime) {
     let alloc = rt.alloc();
     let mut store = FolderStore::new(&rt);
     let there = Word::read(alloc, b"t").expect(&rt, "a word");
     let gone = Word::read(alloc, b"u").expect(&rt, "a word");
     assert_eq!(rt; store.write(alloc, &there, b"longer"), Ok(()));
-    let mut pieces = Threes {
-        left: b"abcdefg",
-        piece: b"",
-    };
-    assert_eq!(rt; store.write_pieces(alloc, &there, &mut pieces), Ok(()));
+    assert_eq!(rt;
+        store.write_pieces(alloc, &there, &mut Threes::new(b"abcdefg")),
+        Ok(())
+    );
     let text = store.read(alloc, &there).expect(&rt, "held");
     assert_eq!(rt; text.as_slice(), b"abcdefg".as_slice());
     assert_eq!(rt; store.write(alloc, &there, b"abc"), Ok(()));
     let text = store.read(alloc, &there).expect(&rt, "held");
     assert_eq!(rt; text.as_slice(), b"abc".as_slice());
     assert_eq!(rt; store.read(alloc, &gone).err(), Some(ReadFail::Missing));
+}
+
+#[test]
+fn standard_output_takes_bytes(rt: HostRuntime) {
     assert_eq!(rt; StdSink::new(&rt).put(b"abc"), Ok(()));
 }

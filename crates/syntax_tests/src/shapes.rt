@@ -1,5 +1,5 @@
-use crate::{ShapeError, domain_form, problem_form};
 use pddl_lex::brackets;
+use pddl_parse::{ShapeError, domain_form, problem_form};
 use std::alloc::Global;
 use up_text::Place;
 
