@@ -1,10 +1,8 @@
-ghost use Rattle.std.specs.Prelude.{◌≡◌};
-
-use crate::{ChooseError, Engine, EngineError, choose, choose_among};
 use std::alloc::Global;
 use std::process::Abort;
 use up_compiler::CompilerId;
 use up_kind::{Feature, Kind};
+use up_pipeline::{ChooseError, Engine, EngineError, choose, choose_among};
 use up_text::List;
 
 // A kind, the features that an engine lists, and the chain, or a dash where none fits.

@@ -1,4 +1,4 @@
-use crate::{PlanTextError, read_plan, write_plan};
+use plan_text::{PlanTextError, read_plan, write_plan};
 use std::alloc::Global;
 use std::test::Fail;
 use up_text::Place;
