@@ -11,7 +11,7 @@ use Rattle.up_text.specs.Fresh.{is_among, with_name}
 use Rattle.up_tree.specs.declared.action.Action.{Action}
 use Rattle.up_compiler.specs.declared.back.Entry.{Entry}
 use Rattle.up_compiler.specs.Back.{entry_named}
-use Rattle.up_compiler.specs.Identity.{has_entry, identity_entry, and_entry}
+use Rattle.up_compiler.specs.Identity.{has_entry, identity_entry}
 use Rattle.up_compiler.specs.Named.{HasEntries, AreNamed}
 
 abbrev pub under : {S : Type 0} → IndexMap (List ℕ) (Bor Entry) S → List ℕ → Option Entry

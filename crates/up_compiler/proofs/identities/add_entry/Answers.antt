@@ -1,6 +1,5 @@
-use Rattle.std.proofs.Common.{◌≡◌, false, ◌∙◌, ap, sym}
+use Rattle.std.proofs.Common.{◌≡◌, false, ◌∙◌, sym}
 use Rattle.up_compiler.specs.Identity.{has_entry}
-use Rattle.up_compiler.proofs.Naming.{named_more}
 use Rattle.up_compiler.proofs.Unchanged.{back_push}
 use Rattle.up_compiler.proofs.identities.add_entry.Goals as goal
 
