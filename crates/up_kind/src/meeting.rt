@@ -225,9 +225,9 @@ fn meets_by(
     ensures { IfOk result (λ meets. meets ≡ meets_one tables.now action.now delete.now action.now.rows) }
 {
     let bare = Ground::bare(alloc, name)?;
-    if first_object(args).is_none() {
+    let Some(_object) = first_object(args) else {
         return Ok(meets_under(tables, action, delete, &adds.by_predicate, &bare));
-    }
+    };
     let key = key_of(alloc, true, name, args)?;
     if meets_under(tables, action, delete, &adds.by_object, &key) {
         return Ok(true);
