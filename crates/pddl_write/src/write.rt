@@ -13,14 +13,15 @@ use up_line::whole_text;
 use up_text::Memory;
 use up_tree::{Parts, Problem};
 
-fn domain_steps(p: &Problem) -> DomainSteps<'_>
-    ensures { domain_left result ≡ pieces_of_domain p.now }
+fn domain_steps<'p>(alloc: Global, p: &'p Problem) -> Result<DomainSteps<'p>, Memory>
+    ensures { IfOk result (λ steps. domain_left steps ≡ pieces_of_domain p.now) }
 {
-    DomainSteps {
+    let kind = kind_of(alloc, p)?;
+    Ok(DomainSteps {
         parts: p.parts(),
-        kind: kind_of(p),
+        kind,
         place: DomainPlace::Define,
-    }
+    })
 }
 
 fn declares_type(parts: &Parts) -> bool
@@ -47,12 +48,12 @@ fn problem_steps(p: &Problem) -> ProblemSteps<'_>
 /// The pieces of the problem's domain as PDDL text (PDDL 2.1, Fox and Long 2003, and 3.1). Room for the longest of
 /// them is taken here, and none later.
 ///
-/// Errors: `Memory` where that room can't be had.
+/// Errors: `Memory` where that room, or the tables that tell the domain's requirements, can't be had.
 #[tactic(auto, unfolding(crate::specs::Files::domain_text))]
 pub fn domain_pieces<'p>(alloc: Global, p: &'p Problem) -> Result<DomainPieces<'p>, Memory>
     ensures { IfOk result (λ d. domain_bytes d ≡ domain_text p.now) }
 {
-    DomainPieces::new(alloc, domain_steps(p))
+    DomainPieces::new(alloc, domain_steps(alloc, p)?)
 }
 
 /// The pieces of the problem as PDDL text, as those of `domain_pieces`.
@@ -67,12 +68,12 @@ pub fn problem_pieces<'p>(alloc: Global, p: &'p Problem) -> Result<ProblemPieces
 
 /// The problem's domain as PDDL text: one line for each action.
 ///
-/// Errors: `Memory` where the text finds no room.
+/// Errors: `Memory` where the text, or the tables that tell its requirements, find no room.
 #[tactic(auto, unfolding(crate::specs::Files::domain_text))]
 pub fn write_domain(alloc: Global, p: &Problem) -> Result<Vec<u8>, Memory>
     ensures { IfOk result (λ text. text.items ≡ domain_text p.now) }
 {
-    whole_text(alloc, domain_steps(p))
+    whole_text(alloc, domain_steps(alloc, p)?)
 }
 
 /// The problem as PDDL text, without its domain.

@@ -8,8 +8,6 @@ mod line;
 mod line_fault;
 mod part;
 mod read;
-#[cfg(test)]
-mod tests;
 mod word;
 mod write;
 

@@ -3,3 +3,4 @@ pub mod Kept
 pub mod Lists
 pub mod Rows
 pub mod Unchanged
+pub mod Naming

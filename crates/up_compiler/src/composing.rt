@@ -1,8 +1,9 @@
-ghost use Rattle.std.specs.Prelude.{◌≡◌, ◌≤◌, suc, map, option_copied, IfOk};
-ghost use Rattle.up_compiler.specs.Back.{entry_named, IsWithin, TargetFits};
+ghost use Rattle.std.specs.Prelude.{◌≡◌, ◌≤◌, suc, map, IfOk};
+ghost use Rattle.up_compiler.specs.Back.{IsWithin, TargetFits};
 ghost use Rattle.up_compiler.specs.Compose.{resolved, through, composed_target, composed_entry, composed, Meets};
 
 use crate::back::{Back, Entry, Item, Target};
+use crate::entry_table::EntryTable;
 use std::alloc::Global;
 use up_text::{List, Memory, Name};
 
@@ -59,25 +60,19 @@ fn through(alloc: Global, items: &[Item], target: &Target) -> Result<Target, Mem
     }
 }
 
-fn entry_named<'a>(entries: &'a [Entry], name: &Name) -> Option<&'a Entry>
-    ensures { option_copied result ≡ entry_named entries.now name.now }
-{
-    entries.iter().find(|entry| &entry.action == name)
-}
-
-fn composed_target(alloc: Global, earlier: &[Entry], target: &Target) -> Result<Target, Memory>
+fn composed_target(alloc: Global, earlier: &EntryTable, target: &Target) -> Result<Target, Memory>
     ensures { IfOk result (λ t. t ≡ composed_target earlier.now target.now) }
 {
     match target {
         Target::Drop => Ok(Target::Drop),
-        Target::Keep(name, items) => match entry_named(earlier, name) {
+        Target::Keep(name, items) => match earlier.find(name) {
             None => Ok(Target::Drop),
             Some(entry) => through(alloc, items.as_slice(), &entry.target),
         },
     }
 }
 
-fn composed_entry(alloc: Global, earlier: &[Entry], entry: &Entry) -> Result<Entry, Memory>
+fn composed_entry(alloc: Global, earlier: &EntryTable, entry: &Entry) -> Result<Entry, Memory>
     ensures { IfOk result (λ e. e ≡ composed_entry earlier.now entry.now) }
 {
     Ok(Entry {
@@ -88,16 +83,18 @@ fn composed_entry(alloc: Global, earlier: &[Entry], entry: &Entry) -> Result<Ent
 }
 
 /// The map by which a step is converted as by `later` and then by `earlier`.
+///
+/// The answer is `Memory` where the entries, or the table of the earlier ones, find no room.
 #[tactic(auto, using(crate::proofs::Composed::composing))]
 pub fn compose(alloc: Global, earlier: &Back, later: &Back) -> Result<Back, Memory>
     requires { Meets earlier.now later.now }
     ensures { IfOk result (λ b. b ≡ composed earlier.now later.now) }
 {
-    let first = earlier.entries();
+    let first = EntryTable::new(alloc, earlier)?;
     let second = later.entries();
     let mut entries = List::new(alloc);
     for entry in second.as_slice() {
-        entries.push(composed_entry(alloc, first.as_slice(), entry)?)?;
+        entries.push(composed_entry(alloc, &first, entry)?)?;
     }
     Ok(Back::new(entries))
 }

@@ -1,10 +1,11 @@
 ghost use Rattle.std.specs.Prelude.{◌≡◌, IfOk, OnOk};
 ghost use Rattle.up_compiler.specs.Back.{IsBack};
-ghost use Rattle.up_compiler.specs.Identity.{arguments, identity_entry, identity_entries, and_entry, has_entry};
+ghost use Rattle.up_compiler.specs.Identity.{arguments, identity_entry, identity_entries, and_entry};
+ghost use Rattle.up_compiler.specs.Named.{AreNamed};
 
 use crate::back::{Back, Entry, Item, Target};
 use std::alloc::Global;
-use up_text::{List, Memory, Name};
+use up_text::{List, Memory, NameSet};
 use up_tree::{Action, Problem};
 
 // The arguments from 1 to this number.
@@ -31,34 +32,39 @@ fn identity_entry(alloc: Global, action: &Action) -> Result<Entry, Memory>
     })
 }
 
-fn has_entry(entries: &[Entry], name: &Name) -> bool
-    ensures { result ≡ has_entry entries.now name.now }
-{
-    entries.iter().any(|entry| &entry.action == name)
-}
-
 // The entry of an action, where its name has none yet.
 #[tactic(auto, using(crate::proofs::Unchanged::identities))]
-fn add_entry(alloc: Global, entries: &mut List<Entry>, action: &Action) -> Result<(), Memory>
-    requires { IsBack entries.old }
+fn add_entry(
+    alloc: Global,
+    names: &mut NameSet,
+    entries: &mut List<Entry>,
+    action: &Action,
+) -> Result<(), Memory>
+    requires back { IsBack entries.old }
+    requires named { AreNamed names.old entries.old }
     ensures added { OnOk result (entries.new ≡ and_entry entries.old action.now) }
     ensures fit { OnOk result (IsBack entries.new) }
+    ensures named { OnOk result (AreNamed names.new entries.new) }
 {
-    if has_entry(entries.as_slice(), &action.name) {
+    if names.has(&action.name) {
         return Ok(());
     }
+    names.add(action.name.copy(alloc)?)?;
     entries.push(identity_entry(alloc, action)?)?;
     Ok(())
 }
 
 /// The map from a problem to itself: each step stays as it is.
-#[tactic(auto, using(crate::proofs::Unchanged::identities))]
+///
+/// The answer is `Memory` where the entries and their names find no room.
+#[tactic(auto, using(crate::proofs::Unchanged::identities, crate::proofs::Naming::named_none))]
 pub fn identity(alloc: Global, p: &Problem) -> Result<Back, Memory>
     ensures { IfOk result (λ b. b ≡ identity_entries p.now.actions) }
 {
+    let mut names = NameSet::new(alloc);
     let mut entries = List::new(alloc);
     for action in p.parts().actions.as_slice() {
-        add_entry(alloc, &mut entries, action)?;
+        add_entry(alloc, &mut names, &mut entries, action)?;
     }
     Ok(Back::new(entries))
 }

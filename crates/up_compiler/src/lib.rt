@@ -3,6 +3,7 @@
 
 mod back;
 mod composing;
+mod entry_table;
 mod id;
 mod identities;
 mod laws;
@@ -10,6 +11,7 @@ mod table;
 
 pub use back::{Back, Compiled, Entry, Item, Target};
 pub use composing::compose;
+pub use entry_table::EntryTable;
 pub use id::{Chain, CompilerId};
 pub use identities::identity;
 pub use laws::{composed_converts_twice, identity_keeps_plans, rows_keep_subsets};

@@ -3,5 +3,9 @@ pub mod Shapes
 pub mod Chains
 pub mod Guards
 pub mod Totals
-pub mod Related
+pub mod Below
+pub mod Naming
+pub mod Marking
+pub mod Filed
+pub mod Filing
 pub mod Whole

@@ -1,7 +1,13 @@
--- Typed tuples by their first argument, and values by the arguments that they begin with.
-use Rattle.std.proofs.Common.{◌≡◌, suc, ◌+◌, ◌≤◌, Bool, true, false, ◌||◌, ◌&&◌, not, cond, List, [], ◌∷◌, ◌++◌, map, filter, take, length, append_assoc, None, Some, refl, ap, subst, sym, ◌∙◌, arith}
+-- Typed tuples by their first argument.
+use Rattle.std.proofs.Common.{◌≡◌, ℕ, get_or, suc, ◌+◌, ◌≤◌, Bool, true, false, ◌||◌, ◌&&◌, not, cond, List, [], ◌∷◌, ◌++◌, map, filter, take, length, append_assoc, None, Some, refl, ap, subst, sym, ◌∙◌, arith}
 use Rattle.std.specs.Prelude.{flat_map, nat_eq, find}
 use Rattle.std.specs.List.{list_all, list_any}
+use Rattle.std.specs.Prelude.{◌<◌}
+use Rattle.std.proofs.lemmas.List.Folds.{list_any_more}
+use Rattle.indexmap.specs.IndexSet.{IndexSet, contains}
+use Rattle.up_tree.specs.declared.problem.ValueFact.{ValueFact}
+use Rattle.up_kind.specs.declared.ground.Ground.{Ground}
+use Rattle.up_kind.specs.Keys.{same_ground, is_value}
 use Rattle.std.specs.Cmp.Lexicographic.{pointwise}
 use Rattle.std.proofs.lemmas.Bool.{false≢true, and_parts}
 use Rattle.std.proofs.lemmas.List.Folds.{list_all-append, list_all-map}
@@ -11,102 +17,11 @@ use Rattle.up_text.specs.Names.{same_name}
 use Rattle.up_tree.specs.declared.problem.Parts.{Parts}
 use Rattle.up_tree.specs.declared.term.Typed.{Typed}
 use Rattle.up_tree.specs.Objects.{world, is_below, objects_of}
-use Rattle.up_kind.specs.Carried.{type_tuples, has_value}
-use Rattle.up_tree.specs.declared.problem.ValueFact.{ValueFact}
-use Rattle.up_kind.specs.Values.{begins, begins_with, NoneWith, has_object, are_inhabited, covers, covers_with}
-
--- ---- what begins so
-
-pub same_is : (a b : Name) → same_name a b ≡ true → a ≡ b
-same_is a b is = (bytes_eq-Decides a b).0 is
-
-pub begins_take : (prefix : List Name) (next : Name) (names : List Name) → begins prefix next names ≡ true
-    → take (length prefix + 1) names ≡ prefix ++ next ∷ []
-begins_take [] next [] is = absurd (false≢true is)
-begins_take [] next (x ∷ names) is = ap (λ n. n ∷ []) (same_is x next is)
-begins_take (y ∷ prefix) next [] is = absurd (false≢true is)
-begins_take (y ∷ prefix) next (x ∷ names) is =
-    let parts = and_parts (same_name x y) (begins prefix next names) is in
-    let long : length (y ∷ prefix) + 1 ≡ suc (length prefix + 1) = omega arith in
-    ap (λ n. take n (x ∷ names)) long ∙ (λ i. same_is x y parts.0 i ∷ begins_take prefix next names parts.1 i)
-
-pub begins_fits : (prefix : List Name) (next : Name) (names : List Name) → begins prefix next names ≡ true → length prefix + 1 ≤ length names
-begins_fits [] next [] is = absurd (false≢true is)
-begins_fits [] next (x ∷ names) is = omega arith
-begins_fits (y ∷ prefix) next [] is = absurd (false≢true is)
-begins_fits (y ∷ prefix) next (x ∷ names) is =
-    let parts = and_parts (same_name x y) (begins prefix next names) is in
-    let behind = begins_fits prefix next names parts.1 in omega arith
-
-pub begins_other : (prefix : List Name) (next : Name) (names rest : List Name) → begins prefix next names ≡ false
-    → pointwise (pointwise nat_eq) names (prefix ++ next ∷ rest) ≡ false
-begins_other [] next [] rest is = refl
-begins_other [] next (x ∷ names) rest is = ap (λ b. b && pointwise (pointwise nat_eq) names rest) is
-begins_other (y ∷ prefix) next [] rest is = refl
-begins_other (y ∷ prefix) next (x ∷ names) rest is = by (same_name x y) is (begins_other prefix next names rest)
-  where
-    by : (b : Bool) → (b && begins prefix next names) ≡ false
-        → (begins prefix next names ≡ false → pointwise (pointwise nat_eq) names (prefix ++ next ∷ rest) ≡ false)
-        → (b && pointwise (pointwise nat_eq) names (prefix ++ next ∷ rest)) ≡ false
-    by true is behind = behind is
-    by false is behind = refl
-
--- ---- values that begin so
-
-found_begins : (f next : Name) (prefix : List Name) (vs : List ValueFact) (v : ValueFact) → find (begins_with f prefix next) vs ≡ Some v
-    → begins_with f prefix next v ≡ true
-found_begins f next prefix [] v is = absurd cc
-found_begins f next prefix (x ∷ vs) v is = by (begins_with f prefix next x) refl is (found_begins f next prefix vs v)
-  where
-    by : (b : Bool) → begins_with f prefix next x ≡ b → cond b (Some x) (find (begins_with f prefix next) vs) ≡ Some v
-        → (find (begins_with f prefix next) vs ≡ Some v → begins_with f prefix next v ≡ true) → begins_with f prefix next v ≡ true
-    by true test is behind = let same : x ≡ v = cc in subst (λ (y : ValueFact). begins_with f prefix next y ≡ true) same test
-    by false test is behind = behind is
-
-pub found_take : (f next : Name) (prefix : List Name) (vs : List ValueFact) (v : ValueFact) → find (begins_with f prefix next) vs ≡ Some v
-    → take (length prefix + 1) v.args ≡ prefix ++ next ∷ []
-found_take f next prefix vs v is =
-    begins_take prefix next v.args ((and_parts (same_name v.function f) (begins prefix next v.args) (found_begins f next prefix vs v is)).1)
-
-pub found_fits : (f next : Name) (prefix : List Name) (vs : List ValueFact) (v : ValueFact) → find (begins_with f prefix next) vs ≡ Some v
-    → length prefix + 1 ≤ length v.args
-found_fits f next prefix vs v is =
-    begins_fits prefix next v.args ((and_parts (same_name v.function f) (begins prefix next v.args) (found_begins f next prefix vs v is)).1)
-
-none_begins : (f next : Name) (prefix rest : List Name) (vs : List ValueFact) → find (begins_with f prefix next) vs ≡ None
-    → list_any (λ v. same_name v.function f && pointwise (pointwise nat_eq) v.args (prefix ++ next ∷ rest)) vs ≡ false
-none_begins f next prefix rest [] is = refl
-none_begins f next prefix rest (x ∷ vs) is = by (same_name x.function f) is (none_begins f next prefix rest vs)
-  where
-    by_args : (b : Bool) → begins prefix next x.args ≡ b → cond b (Some x) (find (begins_with f prefix next) vs) ≡ None
-        → (find (begins_with f prefix next) vs ≡ None
-        → list_any (λ v. same_name v.function f && pointwise (pointwise nat_eq) v.args (prefix ++ next ∷ rest)) vs ≡ false)
-        → (pointwise (pointwise nat_eq) x.args (prefix ++ next ∷ rest)
-        || list_any (λ v. same_name v.function f && pointwise (pointwise nat_eq) v.args (prefix ++ next ∷ rest)) vs) ≡ false
-    by_args true test is behind = absurd cc
-    by_args false test is behind =
-        ap (λ b. b || list_any (λ v. same_name v.function f && pointwise (pointwise nat_eq) v.args (prefix ++ next ∷ rest)) vs)
-        (begins_other prefix next x.args rest test) ∙ behind is
-
-    by : (a : Bool) → cond (a && begins prefix next x.args) (Some x) (find (begins_with f prefix next) vs) ≡ None
-        → (find (begins_with f prefix next) vs ≡ None
-        → list_any (λ v. same_name v.function f && pointwise (pointwise nat_eq) v.args (prefix ++ next ∷ rest)) vs ≡ false)
-        → ((a && pointwise (pointwise nat_eq) x.args (prefix ++ next ∷ rest))
-        || list_any (λ v. same_name v.function f && pointwise (pointwise nat_eq) v.args (prefix ++ next ∷ rest)) vs) ≡ false
-    by true is behind = by_args (begins prefix next x.args) refl is behind
-    by false is behind = behind is
-
-pub none_with : (p : Parts) (f next : Name) (prefix : List Name) → find (begins_with f prefix next) p.values ≡ None → NoneWith p f prefix next
-unfolding NoneWith
-none_with p f next prefix is = λ rest. none_begins f next prefix rest p.values is
-
-pub ruleset values = (found_take, found_fits, none_with)
+use Rattle.up_kind.specs.Carried.{type_tuples, has_value, is_total}
+use Rattle.up_tree.specs.declared.problem.Function.{Function}
+use Rattle.up_kind.specs.Values.{has_object, are_inhabited, covers, covers_with, HasValues}
 
 -- ---- tests of some object and of all types
-
-pub objects_all : (p : Parts) (of : Name) → has_object p of ≡ list_any (λ o. is_below (world p) o.of of) p.objects
-unfolding has_object
-objects_all p of = refl
 
 pub inhabited_none : (p : Parts) → are_inhabited p [] ≡ true
 inhabited_none p = refl
@@ -197,18 +112,40 @@ pub with_other : (p : Parts) (f : Name) (prefix types : List Name) (of : Name) (
 unfolding covers_with
 with_other p f prefix types of o off = ap (λ b. not b || covers p f (prefix ++ o.name ∷ []) types) off
 
-pub with_found : (p : Parts) (f : Name) (prefix types : List Name) (of : Name) (o : Typed) (found : List Name) → is_below (world p) o.of of ≡ true
-    → found ≡ prefix ++ o.name ∷ [] → covers_with p f prefix types of o ≡ covers p f found types
+pub with_on : (p : Parts) (f : Name) (so_far types : List Name) (of : Name) (o : Typed) → is_below (world p) o.of of ≡ true
+    → covers_with p f so_far types of o ≡ covers p f (so_far ++ o.name ∷ []) types
 unfolding covers_with
-with_found p f prefix types of o found on is =
-    ap (λ b. not b || covers p f (prefix ++ o.name ∷ []) types) on ∙ ap (λ names. covers p f names types) (sym is)
+with_on p f so_far types of o on = ap (λ b. not b || covers p f (so_far ++ o.name ∷ []) types) on
 
-pub with_none : (p : Parts) (f : Name) (prefix types : List Name) (of : Name) (o : Typed) → is_below (world p) o.of of ≡ true
-    → NoneWith p f prefix o.name → covers_with p f prefix types of o ≡ not (are_inhabited p types)
-unfolding covers covers_with NoneWith
-with_none p f prefix types of o on none =
-    ap (λ b. not b || covers p f (prefix ++ o.name ∷ []) types) on
-    ∙ (λ i. list_all (λ rest. (ap (has_value p f) (append_assoc prefix (o.name ∷ []) rest) ∙ none rest) i) (type_tuples p types))
-    ∙ no_tuples p types
+all_none : (t : List Name → Bool) (xs : List (List Name)) → list_all (λ rest. false) xs ≡ true → list_all t xs ≡ true
+all_none t [] is = refl
+all_none t (x ∷ xs) is = absurd (false≢true is)
 
-pub ruleset totals = (objects_all, inhabited_none, inhabited_more, covers_ends, covers_more, with_other, with_found, with_none)
+-- where some type has no object, no list is to be covered
+pub covers_empty : (p : Parts) (f : Name) (so_far types : List Name) → are_inhabited p types ≡ false → covers p f so_far types ≡ true
+unfolding covers
+covers_empty p f so_far types none =
+    all_none (λ rest. has_value p f (so_far ++ rest)) (type_tuples p types) (no_tuples p types ∙ ap not none)
+
+pub total_is : (p : Parts) (d : Function) → is_total p d ≡ covers p d.name [] d.args
+unfolding covers
+total_is p d = refl
+
+pub values_more : {S : Type 0} (old new : IndexSet Ground S) (values : List ValueFact) (i : ℕ) (v : ValueFact) (key : Ground) → i < length values → v ≡ get_or values i v
+    → key.name ≡ v.function → key.args.items ≡ v.args → ((q : Ground) → contains same_ground new q ≡ cond (same_ground key q) true (contains same_ground old q))
+    → HasValues old (take i values) → HasValues new (take (i + 1) values)
+values_more old new values i v key below is name args updated has = record {
+  each = λ q.
+      updated q ∙ by (same_ground key q) (contains same_ground old q)
+      ∙ (λ k. has.each q k || (same_name (name k) q.name && pointwise same_name (args k) q.args.items))
+      ∙ (λ k. list_any (is_value q) (take i values) || is_value q (is k))
+      ∙ sym (list_any_more (is_value q) values i v below);
+}
+  where
+    by : (a b : Bool) → cond a true b ≡ (b || a)
+    by true true = refl
+    by true false = refl
+    by false true = refl
+    by false false = refl
+
+pub ruleset totals = (inhabited_none, inhabited_more, covers_ends, covers_more, with_other, with_on)

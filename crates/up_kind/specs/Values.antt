@@ -8,20 +8,13 @@ use Rattle.up_tree.specs.declared.problem.ValueFact.{ValueFact}
 use Rattle.up_tree.specs.declared.term.Typed.{Typed}
 use Rattle.up_tree.specs.Objects.{world, is_below}
 use Rattle.up_kind.specs.Carried.{type_tuples, has_value}
+use Rattle.up_kind.specs.Keys.{same_ground, is_value}
+use Rattle.up_kind.specs.declared.ground.Ground.{Ground}
+use Rattle.indexmap.specs.IndexSet.{IndexSet, contains}
 
--- the names begin with the prefix and then this name
-abbrev pub begins : List Name → Name → List Name → Bool
-begins [] next [] = false
-begins [] next (x ∷ names) = same_name x next
-begins (y ∷ prefix) next [] = false
-begins (y ∷ prefix) next (x ∷ names) = same_name x y && begins prefix next names
-
--- a value of the function whose arguments begin so
-abbrev pub begins_with : Name → List Name → Name → ValueFact → Bool
-begins_with f prefix next v = same_name v.function f && begins prefix next v.args
-
-unfoldable pub NoneWith : Parts → Name → List Name → Name → Type 0
-NoneWith p f prefix next = (rest : List Name) → has_value p f (prefix ++ next ∷ rest) ≡ false
+-- the set has the functions at objects that have a value
+pub record HasValues {S : Type 0} (set : IndexSet Ground S) (values : List ValueFact) : Type 0 where
+  pub each : (key : Ground) → contains same_ground set key ≡ list_any (is_value key) values
 
 unfoldable pub has_object : Parts → Name → Bool
 has_object p of = list_any (λ o. is_below (world p) o.of of) p.objects

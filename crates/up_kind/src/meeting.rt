@@ -1,13 +1,20 @@
-ghost use Rattle.std.specs.Prelude.{◌≡◌, ◌&&◌, ◌++◌, option_copied};
+ghost use Rattle.std.specs.Prelude.{◌≡◌, ◌++◌, IfOk, true, false, option_copied};
+ghost use Rattle.up_tree.specs.declared.action.Effect.TheVariants as Effect;
 ghost use Rattle.std.specs.List.{list_any};
-ghost use Rattle.up_tree.specs.Objects.{world, is_below};
-ghost use Rattle.up_kind.specs.Meeting.{is_under, some_of_both, types_share, share, same_plain, says_equal, is_guarded, meet, has_meeting_rows};
-ghost use Rattle.up_kind.specs.Related.{are_related, could_share, could_agree, all_share, is_filled, are_filled, deletes_some, meet_filled};
+ghost use Rattle.up_tree.specs.Objects.{world};
+ghost use Rattle.up_kind.specs.Meeting.{is_under, some_of_both, types_share, share, same_plain, says_equal, is_guarded, may_agree, meet, has_meeting_rows};
+ghost use Rattle.up_kind.specs.Rows.{HasAdds, rows_of, meets_one, may_be_one};
+ghost use Rattle.up_kind.specs.Keys.{same_ground};
+ghost use Rattle.indexmap.specs.IndexMap.{get};
 
-use crate::types::{is_below, term_type, type_in};
-use crate::values::has_object;
-use up_text::Name;
-use up_tree::{Action, Effect, Formula, Parts, Row, Term, Typed};
+use crate::ground::Ground;
+use crate::rows::{Adds, deletes_some, first_object, key_of};
+use crate::tables::Tables;
+use crate::types::{is_below, term_type};
+use indexmap::IndexMap;
+use std::alloc::Global;
+use up_text::{List, Memory, Name};
+use up_tree::{Action, Effect, Formula, Row, Term, Typed};
 
 // One variable or one object.
 fn same_plain(s: &Term, t: &Term) -> bool
@@ -63,129 +70,102 @@ fn any_guards(members: &[Formula], s: &Term, t: &Term) -> bool
 }
 
 // Whether one type is the other or below it, where there are two.
-fn is_under<'a>(parts: &Parts, of: Option<&'a Name>, above: Option<&'a Name>) -> bool
-    ensures { result ≡ is_under parts.now (option_copied of.entry) (option_copied above.entry) }
+fn is_under<'a>(tables: &Tables<'a>, of: Option<&'a Name>, above: Option<&'a Name>) -> bool
+    ensures { result ≡ is_under tables.now (option_copied of.entry) (option_copied above.entry) }
 {
     match (of, above) {
-        (Some(of), Some(above)) => is_below(parts, of, above),
+        (Some(of), Some(above)) => is_below(tables, of, above),
         _ => false,
     }
 }
 
-fn is_of_both(parts: &Parts, object: &Typed, of: &Name, other: &Name) -> bool
-    ensures { result ≡ (is_below (world parts.now) object.now.of of.now && is_below (world parts.now) object.now.of other.now) }
+// Of two types that share an object one stands below the other, and has an object.
+#[tactic(auto, using(crate::proofs::Below::belows))]
+fn some_of_both(tables: &Tables, of: &Name, other: &Name) -> bool
+    ensures { result ≡ some_of_both tables.now of.now other.now }
 {
-    is_below(parts, &object.of, of) && is_below(parts, &object.of, other)
+    if is_below(tables, of, other) {
+        return tables.has_object(of);
+    }
+    if is_below(tables, other, of) {
+        return tables.has_object(other);
+    }
+    false
 }
 
-fn some_of_both(parts: &Parts, of: &Name, other: &Name) -> bool
-    ensures { result ≡ some_of_both parts.now of.now other.now }
-{
-    parts
-        .objects
-        .as_slice()
-        .iter()
-        .any(|object| is_of_both(parts, object, of, other))
-}
-
-fn types_share<'a>(parts: &Parts, of: Option<&'a Name>, other: Option<&'a Name>) -> bool
-    ensures { result ≡ types_share parts.now (option_copied of.entry) (option_copied other.entry) }
+fn types_share<'a>(tables: &Tables<'a>, of: Option<&'a Name>, other: Option<&'a Name>) -> bool
+    ensures { result ≡ types_share tables.now (option_copied of.entry) (option_copied other.entry) }
 {
     match (of, other) {
-        (Some(of), Some(other)) => some_of_both(parts, of, other),
+        (Some(of), Some(other)) => some_of_both(tables, of, other),
         _ => false,
     }
 }
 
 // Whether the ranges of two terms share an object.
 fn share<'a>(
-    parts: &'a Parts,
+    tables: &Tables<'a>,
     params: &'a [Typed],
     vars: &'a [Typed],
     s: &Term,
     others: &'a [Typed],
     t: &Term,
 ) -> bool
-    ensures { result ≡ share parts.now (vars.now ++ params.now) s.now (others.now ++ params.now) t.now }
+    ensures { result ≡ share tables.now (vars.now ++ params.now) s.now (others.now ++ params.now) t.now }
 {
     match (s, t) {
         (Term::Object(o), Term::Object(q)) => o == q,
         (Term::Object(o), _) => is_under(
-            parts,
-            type_in(parts.objects.as_slice(), o),
-            term_type(parts, others, params, t),
+            tables,
+            tables.type_of(o),
+            term_type(tables, others, params, t),
         ),
         (_, Term::Object(q)) => is_under(
-            parts,
-            type_in(parts.objects.as_slice(), q),
-            term_type(parts, vars, params, s),
+            tables,
+            tables.type_of(q),
+            term_type(tables, vars, params, s),
         ),
         _ => types_share(
-            parts,
-            term_type(parts, vars, params, s),
-            term_type(parts, others, params, t),
+            tables,
+            term_type(tables, vars, params, s),
+            term_type(tables, others, params, t),
         ),
     }
 }
 
-// Whether one of two types is the other or above it.
-#[tactic(auto, unfolding(crate::specs::Related::are_related))]
-fn are_related<'a>(parts: &Parts, of: Option<&'a Name>, other: Option<&'a Name>) -> bool
-    ensures { result ≡ are_related (world parts.now) (option_copied of.entry) (option_copied other.entry) }
+// Whether two terms may be one object, and no conjunct of the precondition says that they differ.
+fn may_be_one(tables: &Tables, action: &Action, delete: &Row, add: &Row, s: &Term, t: &Term) -> bool
+    ensures { result ≡ may_be_one tables.now action.now delete.now add.now s.now t.now }
 {
-    match (of, other) {
-        (Some(of), Some(other)) => is_below(parts, of, other) || is_below(parts, other, of),
-        _ => true,
+    if !share(
+        tables,
+        action.params.as_slice(),
+        delete.vars.as_slice(),
+        s,
+        add.vars.as_slice(),
+        t,
+    ) {
+        return false;
     }
+    !is_guarded(&action.pre, s, t)
 }
 
-// Whether two terms are one object, or have related types. It looks at no object but the two.
-fn could_share<'a>(
-    parts: &'a Parts,
-    params: &'a [Typed],
-    vars: &'a [Typed],
-    s: &Term,
-    others: &'a [Typed],
-    t: &Term,
-) -> bool
-    ensures { result ≡ could_share parts.now (vars.now ++ params.now) s.now (others.now ++ params.now) t.now }
-{
-    match (s, t) {
-        (Term::Object(o), Term::Object(q)) => o == q,
-        _ => are_related(
-            parts,
-            term_type(parts, vars, params, s),
-            term_type(parts, others, params, t),
-        ),
-    }
-}
-
-fn could_agree(
-    parts: &Parts,
+fn may_agree(
+    tables: &Tables,
     action: &Action,
     delete: &Row,
     add: &Row,
     ss: &[Term],
     ts: &[Term],
 ) -> bool
-    ensures { result ≡ could_agree parts.now action.now delete.now add.now ss.now ts.now }
+    ensures { result ≡ may_agree tables.now action.now delete.now add.now ss.now ts.now }
 {
     let mut rest = ts;
     for s in ss {
         let Some((t, behind)) = rest.split_first() else {
             return true;
         };
-        if is_guarded(&action.pre, s, t) {
-            return false;
-        }
-        if !could_share(
-            parts,
-            action.params.as_slice(),
-            delete.vars.as_slice(),
-            s,
-            add.vars.as_slice(),
-            t,
-        ) {
+        if !may_be_one(tables, action, delete, add, s, t) {
             return false;
         }
         rest = behind;
@@ -193,112 +173,119 @@ fn could_agree(
     true
 }
 
-fn all_share(
-    parts: &Parts,
-    action: &Action,
-    delete: &Row,
-    add: &Row,
-    ss: &[Term],
-    ts: &[Term],
-) -> bool
-    ensures { result ≡ all_share parts.now action.now delete.now add.now ss.now ts.now }
-{
-    let params = action.params.as_slice();
-    let mut rest = ts;
-    for s in ss {
-        let Some((t, behind)) = rest.split_first() else {
-            return true;
-        };
-        if !share(
-            parts,
-            params,
-            delete.vars.as_slice(),
-            s,
-            add.vars.as_slice(),
-            t,
-        ) {
-            return false;
-        }
-        rest = behind;
-    }
-    true
-}
-
-// Whether a term's range has an object.
-fn is_filled<'a>(parts: &'a Parts, vars: &'a [Typed], params: &'a [Typed], term: &Term) -> bool
-    ensures { result ≡ is_filled parts.now (vars.now ++ params.now) term.now }
-{
-    match term {
-        Term::Object(_) => true,
-        _ => match term_type(parts, vars, params, term) {
-            None => false,
-            Some(of) => has_object(parts, of),
-        },
-    }
-}
-
-fn are_filled(parts: &Parts, vars: &[Typed], params: &[Typed], terms: &[Term]) -> bool
-    ensures { result ≡ are_filled parts.now (vars.now ++ params.now) terms.now }
-{
-    terms
-        .iter()
-        .all(|term| is_filled(parts, vars, params, term))
-}
-
-// Whether the row can delete an atom.
-fn deletes_some(parts: &Parts, action: &Action, row: &Row) -> bool
-    ensures { result ≡ deletes_some parts.now action.now row.now row.now.effect }
-{
-    match &row.effect {
-        Effect::Delete(_, args) => are_filled(
-            parts,
-            row.vars.as_slice(),
-            action.params.as_slice(),
-            args.as_slice(),
-        ),
-        _ => false,
-    }
-}
-
-// Whether a delete row and an add row meet, where `filled` says that the former can delete an atom. Types are compared before objects
-// are looked for.
-fn meet_filled(parts: &Parts, action: &Action, delete: &Row, filled: bool, add: &Row) -> bool
-    ensures { result ≡ meet_filled parts.now action.now delete.now filled add.now delete.now.effect add.now.effect }
+// Whether a delete row and an add row meet.
+#[tactic(auto, unfolding(crate::specs::Meeting::meet))]
+fn meet(tables: &Tables, action: &Action, delete: &Row, add: &Row) -> bool
+    ensures { result ≡ meet tables.now action.now delete.now add.now }
 {
     match (&delete.effect, &add.effect) {
         (Effect::Delete(name, ss), Effect::Add(other, ts)) => {
-            name == other
-                && (filled || ts.len() < ss.len())
-                && could_agree(parts, action, delete, add, ss.as_slice(), ts.as_slice())
-                && all_share(parts, action, delete, add, ss.as_slice(), ts.as_slice())
+            name == other && may_agree(tables, action, delete, add, ss.as_slice(), ts.as_slice())
         }
         _ => false,
     }
 }
 
-fn meets_some_filled(parts: &Parts, action: &Action, delete: &Row, filled: bool) -> bool
-    ensures { result ≡ list_any (λ add. meet_filled parts.now action.now delete.now filled add delete.now.effect add.effect) action.now.rows }
+fn meets_one(tables: &Tables, action: &Action, delete: &Row, adds: &[&Row]) -> bool
+    ensures { result ≡ list_any (λ add. meet tables.now action.now delete.now add.now) adds.now }
 {
-    action
-        .rows
-        .as_slice()
-        .iter()
-        .any(|add| meet_filled(parts, action, delete, filled, add))
+    adds.iter().any(|add| meet(tables, action, delete, add))
 }
 
-fn meets_some(parts: &Parts, action: &Action, delete: &Row) -> bool
-    ensures { result ≡ list_any (meet parts.now action.now delete.now) action.now.rows }
+// Whether one of the rows under a key meets the delete row.
+fn meets_under(
+    tables: &Tables,
+    action: &Action,
+    delete: &Row,
+    table: &IndexMap<Ground, List<&Row>>,
+    key: &Ground,
+) -> bool
+    ensures { result ≡ meets_one tables.now action.now delete.now (rows_of (get same_ground table.now key.now)) }
 {
-    meets_some_filled(parts, action, delete, deletes_some(parts, action, delete))
+    match table.get(key) {
+        None => false,
+        Some(adds) => meets_one(tables, action, delete, adds.as_slice()),
+    }
 }
 
-// Whether the action has a delete row and an add row that meet.
-pub(crate) fn has_meeting_rows(parts: &Parts, action: &Action) -> bool
-    ensures { result ≡ has_meeting_rows parts.now action.now }
+// Whether a row that deletes atoms of the predicate meets some add row.
+#[tactic(auto, using(crate::proofs::Filed::meets))]
+fn meets_by(
+    alloc: Global,
+    tables: &Tables,
+    action: &Action,
+    delete: &Row,
+    name: &Name,
+    args: &[Term],
+    adds: &Adds,
+) -> Result<bool, Memory>
+    requires of { delete.now.effect ≡ Effect.Delete name.now args.now }
+    requires predicate { HasAdds false adds.now.by_predicate action.now.rows }
+    requires object { HasAdds true adds.now.by_object action.now.rows }
+    ensures { IfOk result (λ meets. meets ≡ meets_one tables.now action.now delete.now action.now.rows) }
 {
-    action
-        .rows
-        .as_slice()
-        .iter()
-        .any(|delete| meets_some(parts, action, delete))
+    let bare = Ground::bare(alloc, name)?;
+    let Some(_object) = first_object(args) else {
+        return Ok(meets_under(tables, action, delete, &adds.by_predicate, &bare));
+    };
+    let key = key_of(alloc, true, name, args)?;
+    if meets_under(tables, action, delete, &adds.by_object, &key) {
+        return Ok(true);
+    }
+    Ok(meets_under(tables, action, delete, &adds.by_object, &bare))
+}
+
+// Whether a row meets some add row.
+#[tactic(auto, using(crate::proofs::Filed::idle))]
+fn meets_some(
+    alloc: Global,
+    tables: &Tables,
+    action: &Action,
+    delete: &Row,
+    adds: &Adds,
+) -> Result<bool, Memory>
+    requires predicate { HasAdds false adds.now.by_predicate action.now.rows }
+    requires object { HasAdds true adds.now.by_object action.now.rows }
+    ensures { IfOk result (λ meets. meets ≡ meets_one tables.now action.now delete.now action.now.rows) }
+{
+    match &delete.effect {
+        Effect::Delete(name, args) => {
+            meets_by(alloc, tables, action, delete, name, args.as_slice(), adds)
+        }
+        Effect::Add(..) => Ok(false),
+        Effect::Number(..) => Ok(false),
+        Effect::Object(..) => Ok(false),
+        Effect::Undefine(..) => Ok(false),
+    }
+}
+
+fn meets_any(alloc: Global, tables: &Tables, action: &Action, adds: &Adds) -> Result<bool, Memory>
+    requires predicate { HasAdds false adds.now.by_predicate action.now.rows }
+    requires object { HasAdds true adds.now.by_object action.now.rows }
+    ensures { IfOk result (λ meets. meets ≡ has_meeting_rows tables.now action.now) }
+{
+    for delete in action.rows.as_slice() {
+        if meets_some(alloc, tables, action, delete, adds)? {
+            return Ok(true);
+        }
+    }
+    Ok(false)
+}
+
+// Whether the action has a delete row and an add row that meet. Rows are compared only where their predicates are one, and
+// where two objects stand first only where these are one.
+#[tactic(auto, using(crate::proofs::Filed::filed))]
+pub(crate) fn has_meeting_rows(
+    alloc: Global,
+    tables: &Tables,
+    action: &Action,
+) -> Result<bool, Memory>
+    ensures { IfOk result (λ meets. meets ≡ has_meeting_rows tables.now action.now) }
+{
+    let rows = action.rows.as_slice();
+    if !deletes_some(rows) {
+        return Ok(false);
+    }
+    let adds = Adds::new(alloc, rows)?;
+    meets_any(alloc, tables, action, &adds)
 }

@@ -1,12 +1,13 @@
 ghost use Rattle.std.specs.Prelude.{◌≡◌, ◌++◌, option_copied};
-ghost use Rattle.up_tree.specs.Objects.{world, type_in, is_below, function_named};
+ghost use Rattle.up_tree.specs.Objects.{world, type_in, is_below};
 ghost use Rattle.up_tree.specs.WellFormed.{term_type, gives_object};
 
+use crate::tables::Tables;
 use up_text::Name;
-use up_tree::{Function, Gives, Parts, Term, Typed};
+use up_tree::{Function, Gives, Term, Typed};
 
 // The type that stands beside a name.
-pub(crate) fn type_in<'a>(entries: &'a [Typed], name: &Name) -> Option<&'a Name>
+fn type_in<'a>(entries: &'a [Typed], name: &Name) -> Option<&'a Name>
     ensures { option_copied result ≡ type_in entries.now name.now }
 {
     for entry in entries {
@@ -19,17 +20,16 @@ pub(crate) fn type_in<'a>(entries: &'a [Typed], name: &Name) -> Option<&'a Name>
 
 // Whether a type has the other among itself and its parents.
 #[tactic(auto, using(crate::proofs::Chains::chains))]
-pub(crate) fn is_below<'a>(parts: &'a Parts, of: &'a Name, above: &Name) -> bool
-    ensures { result ≡ is_below (world parts.now) of.now above.now }
+pub(crate) fn is_below<'a>(tables: &Tables<'a>, of: &'a Name, above: &Name) -> bool
+    ensures { result ≡ is_below (world tables.now) of.now above.now }
 {
-    let types = parts.types.as_slice();
     let mut here = of;
-    let mut steps = types;
+    let mut steps = tables.parts().types.as_slice();
     'up: while let Some((_step, left)) = steps.split_first() {
         if above == here {
             return true;
         }
-        match type_in(types, here) {
+        match tables.parent_of(here) {
             None => return false,
             Some(parent) => {
                 here = parent;
@@ -38,16 +38,6 @@ pub(crate) fn is_below<'a>(parts: &'a Parts, of: &'a Name, above: &Name) -> bool
         }
     }
     above == here
-}
-
-fn function_named<'a>(parts: &'a Parts, name: &Name) -> Option<&'a Function>
-    ensures { option_copied result ≡ function_named parts.now name.now }
-{
-    parts
-        .functions
-        .as_slice()
-        .iter()
-        .find(|function| &function.name == name)
 }
 
 fn gives_object(function: &Function) -> Option<&Name>
@@ -62,20 +52,20 @@ fn gives_object(function: &Function) -> Option<&Name>
 // The type of a term's value.
 #[tactic(auto, using(crate::proofs::Chains::scopes))]
 pub(crate) fn term_type<'a>(
-    parts: &'a Parts,
+    tables: &Tables<'a>,
     vars: &'a [Typed],
     params: &'a [Typed],
     term: &Term,
 ) -> Option<&'a Name>
-    ensures { option_copied result ≡ term_type parts.now (vars.now ++ params.now) term.now }
+    ensures { option_copied result ≡ term_type tables.now (vars.now ++ params.now) term.now }
 {
     match term {
         Term::Var(name) => match type_in(vars, name) {
             Some(of) => Some(of),
             None => type_in(params, name),
         },
-        Term::Object(name) => type_in(parts.objects.as_slice(), name),
-        Term::Fluent(name, _) => match function_named(parts, name) {
+        Term::Object(name) => tables.type_of(name),
+        Term::Fluent(name, _) => match tables.function_named(name) {
             Some(function) => gives_object(function),
             None => None,
         },

@@ -1,131 +1,91 @@
-ghost use Rattle.std.specs.Prelude.{◌≡◌, ◌≤◌, ◌++◌, ◌∷◌, [], length, take, find, option_copied, MatchOption};
+ghost use Rattle.std.specs.Prelude.{◌≡◌, IfOk, OnOk};
 ghost use Rattle.up_kind.specs.Carried.{has_value, is_total, gives_an_object};
-ghost use Rattle.up_kind.specs.Values.{begins, begins_with, NoneWith, has_object, are_inhabited, covers, covers_with};
+ghost use Rattle.up_kind.specs.Values.{are_inhabited, covers, covers_with, HasValues};
 
+use crate::ground::Ground;
+use crate::tables::Tables;
 use crate::types::is_below;
-use up_text::Name;
-use up_tree::{Function, Gives, Parts, Typed, ValueFact};
+use indexmap::IndexSet;
+use std::alloc::Global;
+use up_text::{Memory, Name};
+use up_tree::{Function, Gives, Typed, ValueFact};
 
-// Whether the names begin with a list and then one name more.
-fn begins(prefix: &[Name], next: &Name, names: &[Name]) -> bool
-    ensures { result ≡ begins prefix.now next.now names.now }
+// The functions at objects that have a value.
+pub(crate) fn values_of(alloc: Global, values: &[ValueFact]) -> Result<IndexSet<Ground>, Memory>
+    ensures { IfOk result (λ set. HasValues set values.now) }
 {
-    let mut rest = names;
-    for name in prefix {
-        let Some((first, behind)) = rest.split_first() else {
-            return false;
-        };
-        if first != name {
-            return false;
-        }
-        rest = behind;
+    let mut set = IndexSet::new(alloc);
+    for value in values {
+        let key = Ground::at(alloc, &value.function, value.args.as_slice())?;
+        set.insert(key)?;
     }
-    match rest.split_first() {
-        None => false,
-        Some((first, _)) => first == next,
-    }
-}
-
-// The first value of the function whose arguments begin so.
-fn first_with<'a>(parts: &'a Parts, f: &Name, prefix: &[Name], next: &Name) -> Option<&'a ValueFact>
-    ensures { option_copied result ≡ find (begins_with f.now prefix.now next.now) parts.now.values }
-{
-    parts.values.as_slice().iter().find(|value| &value.function == f
-        && begins(prefix, next, value.args.as_slice()))
-}
-
-fn front(names: &[Name], end: usize) -> &[Name]
-    requires { end ≤ length names.now }
-    ensures { result.now ≡ take end names.now }
-{
-    &names[..end]
-}
-
-// The arguments of some value of the function that begin so, no further than that.
-#[tactic(auto, using(crate::proofs::Totals::values))]
-fn extended<'a>(parts: &'a Parts, f: &Name, prefix: &[Name], next: &Name) -> Option<&'a [Name]>
-    ensures { MatchOption result (NoneWith parts.now f.now prefix.now next.now) (λ found. found.now ≡ prefix.now ++ next.now ∷ []) }
-{
-    match first_with(parts, f, prefix, next) {
-        None => None,
-        Some(value) => Some(front(value.args.as_slice(), prefix.len() + 1)),
-    }
-}
-
-fn has_value(parts: &Parts, f: &Name, args: &[Name]) -> bool
-    ensures { result ≡ has_value parts.now f.now args.now }
-{
-    for value in parts.values.as_slice() {
-        if &value.function == f && value.args.as_slice() == args {
-            return true;
-        }
-    }
-    false
+    Ok(set)
 }
 
 #[tactic(auto, using(crate::proofs::Totals::totals))]
-pub(crate) fn has_object(parts: &Parts, of: &Name) -> bool
-    ensures { result ≡ has_object parts.now of.now }
-{
-    for object in parts.objects.as_slice() {
-        if is_below(parts, &object.of, of) {
-            return true;
-        }
-    }
-    false
-}
-
-#[tactic(auto, using(crate::proofs::Totals::totals))]
-fn are_inhabited(parts: &Parts, types: &[Name]) -> bool
-    ensures { result ≡ are_inhabited parts.now types.now }
+fn are_inhabited(tables: &Tables, types: &[Name]) -> bool
+    ensures { result ≡ are_inhabited tables.now types.now }
 {
     for of in types {
-        if !has_object(parts, of) {
+        if !tables.has_object(of) {
             return false;
         }
     }
     true
 }
 
-// Whether each list that the prefix and objects of these types make is the arguments of a value.
+// Whether each list that the arguments so far and objects of these types make has a value. It stops at the first that has none.
 #[cycle(covering)]
 #[tactic(auto, using(crate::proofs::Totals::totals))]
-fn covers(parts: &Parts, f: &Name, prefix: &[Name], types: &[Name]) -> bool
-    ensures { result ≡ covers parts.now f.now prefix.now types.now }
+fn covers(
+    alloc: Global,
+    tables: &Tables,
+    values: &IndexSet<Ground>,
+    so_far: &mut Ground,
+    types: &[Name],
+) -> Result<bool, Memory>
+    requires { HasValues values.now tables.now.values }
+    ensures covers { IfOk result (λ all. all ≡ covers tables.now so_far.old.name so_far.old.args.items types.now) }
+    ensures name { OnOk result (so_far.new.name ≡ so_far.old.name) }
+    ensures args { OnOk result (so_far.new.args.items ≡ so_far.old.args.items) }
 {
     match types.split_first() {
-        None => has_value(parts, f, prefix),
+        None => Ok(values.contains(&*so_far)),
         Some((of, behind)) => {
-            for object in parts.objects.as_slice() {
-                if !covers_with(parts, f, prefix, object, of, behind) {
-                    return false;
+            for object in tables.parts().objects.as_slice() {
+                if !covers_with(alloc, tables, values, so_far, object, of, behind)? {
+                    return Ok(false);
                 }
             }
-            true
+            Ok(true)
         }
     }
 }
 
-// The same of the prefix with an object besides, where that is of the type.
+// The same of the arguments so far with an object besides, where that is of the type.
 #[cycle(covering)]
 #[tactic(auto, using(crate::proofs::Totals::totals))]
 fn covers_with(
-    parts: &Parts,
-    f: &Name,
-    prefix: &[Name],
+    alloc: Global,
+    tables: &Tables,
+    values: &IndexSet<Ground>,
+    so_far: &mut Ground,
     object: &Typed,
     of: &Name,
     types: &[Name],
-) -> bool
-    ensures { result ≡ covers_with parts.now f.now prefix.now types.now of.now object.now }
+) -> Result<bool, Memory>
+    requires { HasValues values.now tables.now.values }
+    ensures covers { IfOk result (λ all. all ≡ covers_with tables.now so_far.old.name so_far.old.args.items types.now of.now object.now) }
+    ensures name { OnOk result (so_far.new.name ≡ so_far.old.name) }
+    ensures args { OnOk result (so_far.new.args.items ≡ so_far.old.args.items) }
 {
-    if !is_below(parts, &object.of, of) {
-        return true;
+    if !is_below(tables, &object.of, of) {
+        return Ok(true);
     }
-    match extended(parts, f, prefix, &object.name) {
-        None => !are_inhabited(parts, types),
-        Some(found) => covers(parts, f, found, types),
-    }
+    so_far.args.push(object.name.copy(alloc)?)?;
+    let all = covers(alloc, tables, values, so_far, types)?;
+    drop(so_far.args.pop());
+    Ok(all)
 }
 
 pub(crate) fn gives_an_object(function: &Function) -> bool
@@ -137,10 +97,21 @@ pub(crate) fn gives_an_object(function: &Function) -> bool
     }
 }
 
-/// Each typed ground instance of the function has an initial value.
-#[tactic(auto, unfolding(crate::specs::Values::covers))]
-pub(crate) fn is_total(parts: &Parts, function: &Function) -> bool
-    ensures { result ≡ is_total parts.now function.now }
+// Whether each typed ground instance of the function has an initial value.
+#[tactic(auto, using(crate::proofs::Totals::totals), unfolding(crate::specs::Values::covers))]
+pub(crate) fn is_total(
+    alloc: Global,
+    tables: &Tables,
+    values: &IndexSet<Ground>,
+    function: &Function,
+) -> Result<bool, Memory>
+    requires { HasValues values.now tables.now.values }
+    ensures { IfOk result (λ total. total ≡ is_total tables.now function.now) }
 {
-    covers(parts, &function.name, &[], function.args.as_slice())
+    let types = function.args.as_slice();
+    if !are_inhabited(tables, types) {
+        return Ok(true);
+    }
+    let mut so_far = Ground::bare(alloc, &function.name)?;
+    covers(alloc, tables, values, &mut so_far, types)
 }

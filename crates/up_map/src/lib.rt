@@ -12,8 +12,6 @@ mod number;
 mod piecewise;
 mod read;
 mod steps;
-#[cfg(test)]
-mod tests;
 mod write;
 
 pub use back_error::BackError;

@@ -5,8 +5,6 @@ mod chooser;
 mod engine;
 mod read;
 mod search;
-#[cfg(test)]
-mod tests;
 
 pub use chooser::{ChooseError, choose, choose_among};
 pub use engine::{Engine, EngineError};

@@ -4,4 +4,4 @@ use Rattle.up_kind.specs.Gathered.{of_function}
 use Rattle.up_kind.proofs.problem.of_functions.Given as goal
 
 abbrev pub invariant-loop-function : goal.invariant-loop-function
-invariant-loop-function l = has l.kind.0 ≡ over (of_function l.parts) (take l.function-index l.parts.functions)
+invariant-loop-function l = has l.kind.0 ≡ over (of_function l.tables) (take l.function-index l.tables.functions)

@@ -5,7 +5,7 @@ use Rattle.up_tree.specs.Objects.{world, chain, is_below}
 use Rattle.up_kind.proofs.types.is_below.Given as goal
 
 abbrev pub invariant-up : goal.invariant-up
-invariant-up l = is_below (world l.parts) l.of l.above ≡ list_any (same_name l.above) (chain l.types (length l.steps) l.here)
+invariant-up l = is_below (world l.tables) l.of l.above ≡ list_any (same_name l.above) (chain l.tables.types (length l.steps) l.here)
 
 abbrev pub decreases-up : goal.decreases-up
 decreases-up l = length l.steps

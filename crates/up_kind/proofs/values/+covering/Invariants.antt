@@ -6,8 +6,9 @@ use Rattle.up_kind.proofs.values.+covering.Given as goal
 -- the objects so far are covered
 abbrev pub invariant-covers-loop-object : goal.invariant-covers-loop-object
 invariant-covers-loop-object l =
-    covers l.parts l.f l.prefix l.types
-    ≡ list_all (covers_with l.parts l.f l.prefix l.behind l.of) (drop l.object-index l.parts.objects)
+    (l.so_far.name ≡ l.initial.so_far.name) × (l.so_far.args.items ≡ l.initial.so_far.args.items)
+    × (covers l.tables l.initial.so_far.name l.initial.so_far.args.items l.types
+    ≡ list_all (covers_with l.tables l.so_far.name l.so_far.args.items l.behind l.of) (drop l.object-index l.tables.objects))
 
 abbrev pub decreases-covers : goal.decreases-covers
 decreases-covers l = length l.types.now + length l.types.now
