@@ -1,5 +1,5 @@
 use Rattle.std.proofs.Common.{◌+◌, take, subst, sym, ap}
-use Rattle.up_validate.specs.Runs.{StandsBehind, HaltsAt, Halts}
+use Rattle.up_validate.specs.Runs.{StandsAfter, HaltsAt, Halts}
 use Rattle.up_validate.proofs.Running.{taken_more, stands_on, halts_at, halts_first, handed_on}
 use Rattle.up_validate.proofs.run.run_of.Goals as goal
 
@@ -19,6 +19,6 @@ pub loop-step-preserved : goal.loop-step-preserved
 loop-step-preserved c = record {
   number_is = ap (λ n. n + 1) c.loop-step.invariant.number_is;
   stands =
-      subst (λ them. StandsBehind c.args.p.now them c.in_ok-run-2.run') (sym (taken_more c.args.p.now c.args.steps.now c.loop-step.step-index c.step-item.result c.loop-step-test.true c.step-item.is))
+      subst (λ them. StandsAfter c.args.p.now them c.in_ok-run-2.run') (sym (taken_more c.args.p.now c.args.steps.now c.loop-step.step-index c.step-item.result c.loop-step-test.true c.step-item.is))
       (stands_on c.args.p.now (take c.loop-step.step-index c.args.steps.now) c.step-item.result c.loop-step.run c.in_ok-run-2.run' c.loop-step.invariant.stands c.in_ok-run-2.ensures.follows);
 }

@@ -1,5 +1,5 @@
 use Rattle.up_validate.proofs.Watching.{go_on}
-use Rattle.up_validate.proofs.run.phases_behind.Goals as goal
+use Rattle.up_validate.proofs.run.later_phases.Goals as goal
 
 pub returns-in-Ok-clause-phases : goal.returns-in-Ok-clause-phases
 returns-in-Ok-clause-phases c =
