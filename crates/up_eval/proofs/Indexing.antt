@@ -63,10 +63,10 @@ module _ {E : Type 0} (key : E → Name) where
   rest_all table rest m is have name =
       sym (have.each name ∙ ap (λ (row : List E). option_or (first_of row name) (option_copied (get same_name table name))) (no_length rest is))
 
-pub abbrev name_of_typed : Typed → Name
+abbrev pub name_of_typed : Typed → Name
 name_of_typed entry = entry.name
 
-pub abbrev name_of_action : Action → Name
+abbrev pub name_of_action : Action → Name
 name_of_action action = action.name
 
 pub typed_none : {S : Type 0} (table : IndexMap (List ℕ) (Bor Typed) S) (rest m : List Typed) → rest ≡ m → ((name : List ℕ) → get same_name table name ≡ None)

@@ -153,6 +153,25 @@ impl State {
         Ok(next)
     }
 
+    // The state after a step, in place of this one. The step's names are looked up in the index where there is one.
+    fn stepped(
+        self,
+        alloc: Global,
+        p: &Problem,
+        index: Option<&Index<'_>>,
+        step: &Step,
+    ) -> Result<State, StepError>
+        requires { IfSome index (λ it. IsIndexOf p.now it.now) }
+        ensures next { IfOk result (IsNext p.now self step.now) }
+        ensures typed { IfOk result (StaysOf p.now self) }
+        ensures can { OnOk result (CanTake p.now self step.now) }
+        ensures refused { IfErr result (RefusesStep p.now self step.now) }
+    {
+        let changes = self.changes(alloc, p, index, step)?;
+        let next = self.changed(alloc, changes)?;
+        Ok(next)
+    }
+
     /// The state after a step, in place of this one (PDDL 2.1, Fox and Long 2003).
     ///
     /// Every value is taken in the state before. An atom that the step both deletes and adds holds after it. The memory that it takes
@@ -163,9 +182,7 @@ impl State {
         ensures can { OnOk result (CanTake p.now self step.now) }
         ensures refused { IfErr result (RefusesStep p.now self step.now) }
     {
-        let changes = self.changes(alloc, p, None, step)?;
-        let next = self.changed(alloc, changes)?;
-        Ok(next)
+        self.stepped(alloc, p, None, step)
     }
 
     /// The state after a step, in place of this one, as `after` makes it. The step's names are looked up in the index, so that the time
@@ -183,9 +200,7 @@ impl State {
         ensures can { OnOk result (CanTake p.now self step.now) }
         ensures refused { IfErr result (RefusesStep p.now self step.now) }
     {
-        let changes = self.changes(alloc, p, Some(index), step)?;
-        let next = self.changed(alloc, changes)?;
-        Ok(next)
+        self.stepped(alloc, p, Some(index), step)
     }
 
     /// Takes a step: the state becomes the one after it (PDDL 2.1, Fox and Long 2003).

@@ -7,9 +7,9 @@ ghost use Rattle.up_validate.specs.Verdicts.{IsVerdict, IsUnjudged};
 
 use crate::run::{Halt, Run, run_of};
 use crate::verdict::{ValidateError, Verdict};
-use crate::watch::{first_unkept, watches_of};
+use crate::watch::first_unkept;
 use std::alloc::Global;
-use up_eval::{Index, Truth, TruthError};
+use up_eval::{Truth, TruthError};
 use up_tree::{Plan, Problem};
 
 /// Whether the plan is valid for the problem: sequential validity (PDDL 2.1, Fox and Long 2003, section 4), where a step whose
@@ -21,10 +21,12 @@ pub fn validate(alloc: Global, p: &Problem, plan: &Plan) -> Result<Verdict, Vali
     ensures verdict { IfOk result (IsVerdict p.now plan.now) }
     ensures unjudged { IfErr result (IsUnjudged p.now plan.now) }
 {
-    let watches = watches_of(alloc, p, p.parts().constraints.as_slice())?;
-    let index = Index::new(alloc, p)?;
-    match run_of(alloc, p, &index, watches.as_slice(), plan.steps.as_slice()) {
-        Ok(run) => judged(alloc, p, plan, &run),
+    match run_of(alloc, p, plan.steps.as_slice()) {
+        Ok(run) => {
+            let verdict = judged(alloc, p, plan, &run);
+            drop(run);
+            verdict
+        }
         Err(halt) => halted(p, plan, halt),
     }
 }

@@ -6,7 +6,7 @@ ghost use Rattle.up_validate.specs.Runs.{AreWatches, StandsAfter, Follows, GoOn,
 
 use crate::phase::Phase;
 use crate::verdict::StepFault;
-use crate::watch::{Watch, all_nexts, all_starts};
+use crate::watch::{Watch, all_nexts, all_starts, watches_of};
 use std::alloc::Global;
 use up_eval::{Index, State, StepError, TruthError};
 use up_text::{List, Memory};
@@ -114,10 +114,23 @@ fn first_run(alloc: Global, p: &Problem, watches: &[Watch]) -> Result<Run, Halt>
     ensures stands { IfOk result (StandsAfter p.now []) }
     ensures halts { IfErr result (IsBigAfter p.now (init p.now) 1) }
 {
-    let state = State::init(alloc, p)?;
     let none = all_starts(alloc, p.parts().constraints.as_slice(), watches)?;
-    let phases = later_phases(alloc, p, watches, &state, none.as_slice(), 1)?;
-    Ok(Run { state, phases })
+    let state = match State::init(alloc, p) {
+        Ok(state) => state,
+        Err(memory) => {
+            drop(none);
+            return Err(Halt::from(memory));
+        }
+    };
+    let phases = later_phases(alloc, p, watches, &state, none.as_slice(), 1);
+    drop(none);
+    match phases {
+        Ok(phases) => Ok(Run { state, phases }),
+        Err(halt) => {
+            drop(state);
+            Err(halt)
+        }
+    }
 }
 
 // Where the run stands after the step with this number.
@@ -138,13 +151,26 @@ fn next_run(
     ensures halts { IfErr result (HaltsAt p.now run.state number step.now) }
 {
     let Run { state, phases } = run;
-    let state = state_after(alloc, p, index, state, number, step)?;
-    let phases = later_phases(alloc, p, watches, &state, phases.as_slice(), number + 1)?;
-    Ok(Run { state, phases })
+    let state = match state_after(alloc, p, index, state, number, step) {
+        Ok(state) => state,
+        Err(halt) => {
+            drop(phases);
+            return Err(halt);
+        }
+    };
+    let later = later_phases(alloc, p, watches, &state, phases.as_slice(), number + 1);
+    drop(phases);
+    match later {
+        Ok(phases) => Ok(Run { state, phases }),
+        Err(halt) => {
+            drop(state);
+            Err(halt)
+        }
+    }
 }
 
-/// Where the run of the steps stands.
-pub(crate) fn run_of(
+// Where the run of the steps stands, by the problem's index and watches.
+fn run_by(
     alloc: Global,
     p: &Problem,
     index: &Index<'_>,
@@ -163,4 +189,24 @@ pub(crate) fn run_of(
         run = next_run(alloc, p, index, watches, run, number, step)?;
     }
     Ok(run)
+}
+
+/// Where the run of the steps stands.
+pub(crate) fn run_of(alloc: Global, p: &Problem, steps: &[Step]) -> Result<Run, Halt>
+    ensures stands { IfOk result (StandsAfter p.now steps.now) }
+    ensures halts { IfErr result (Halts p.now steps.now) }
+{
+    let index = Index::new(alloc, p)?;
+    match watches_of(alloc, p, p.parts().constraints.as_slice()) {
+        Ok(watches) => {
+            let run = run_by(alloc, p, &index, watches.as_slice(), steps);
+            drop(watches);
+            drop(index);
+            run
+        }
+        Err(memory) => {
+            drop(index);
+            Err(Halt::from(memory))
+        }
+    }
 }

@@ -1,7 +1,7 @@
 use Rattle.std.proofs.Common.{◌+◌, take, subst, sym, ap}
 use Rattle.up_validate.specs.Runs.{StandsAfter, HaltsAt, Halts}
 use Rattle.up_validate.proofs.Running.{taken_more, stands_on, halts_at, halts_first, handed_on}
-use Rattle.up_validate.proofs.run.run_of.Goals as goal
+use Rattle.up_validate.proofs.run.run_by.Goals as goal
 
 pub returns-in_err-run-clause-halts : goal.returns-in_err-run-clause-halts
 returns-in_err-run-clause-halts c =
