@@ -16,7 +16,7 @@ use Rattle.up_tree.proofs.Steps.{ByAction}
 use Rattle.up_eval.specs.Scope.{names_below}
 use Rattle.up_eval.specs.Arguments.{are_known, is_object_of, are_typed}
 use Rattle.up_eval.specs.declared.step_error.StepError.TheVariants as refused
-use Rattle.up_eval.specs.Steps.{Fits, IsUnfit}
+use Rattle.up_eval.specs.Steps.{Fits, IsIllTyped}
 
 module _ (w : World) (t o : Name) where
   pub found : (es : List Typed) → is_object_of w t es o ≡ true → Member o (names_below w t es)
@@ -89,7 +89,7 @@ module _ (w : World) where
 -- ---- the first fault of a step, among those of its names and arguments
 
 module _ (p : Parts) (step : Step) where
-  pub unknown_action : action_named p step.action ≡ None → IsUnfit p step refused.Unknown
+  pub unknown_action : action_named p step.action ≡ None → IsIllTyped p step refused.Unknown
   unknown_action is s = record { applies = subst (λ found. ByAction p s step.args found unknown) (sym is) tt; first = tt }
 
   module _ (a : Action) (found : action_named p step.action ≡ Some a) where
@@ -99,20 +99,20 @@ module _ (p : Parts) (step : Step) where
     pub applied_at : (s : State) (fault : Fault) → Applies p s step fault → ActionApplies (world p) s a step.args fault
     applied_at s fault h = subst (λ o. ByAction p s step.args o fault) found h
 
-    pub unknown_object : are_known (world p) step.args ≡ false → IsUnfit p step refused.Unknown
+    pub unknown_object : are_known (world p) step.args ≡ false → IsIllTyped p step refused.Unknown
     unknown_object is s = record { applies = applies_at s unknown (unknown_one (world p) step.args is); first = tt }
 
     not_unknown : are_known (world p) step.args ≡ true → (s : State) → ¬ Applies p s step unknown
     not_unknown is s h = known_all (world p) step.args is (applied_at s unknown h)
 
-    pub wrong_arity : are_known (world p) step.args ≡ true → length step.args ≢ length a.params → IsUnfit p step refused.Arity
+    pub wrong_arity : are_known (world p) step.args ≡ true → length step.args ≢ length a.params → IsIllTyped p step refused.Arity
     wrong_arity known differs s = record { applies = applies_at s arity differs; first = (not_unknown known s, tt) }
 
     not_arity : length step.args ≡ length a.params → (s : State) → ¬ Applies p s step arity
     not_arity same s h = applied_at s arity h same
 
     pub wrong_type : are_known (world p) step.args ≡ true → length step.args ≡ length a.params → are_typed (world p) step.args a.params ≡ false
-        → IsUnfit p step refused.ArgumentType
+        → IsIllTyped p step refused.ArgumentType
     wrong_type known same is s = record {
       applies = applies_at s argument_type (untyped_one (world p) step.args a.params is);
       first = (not_arity same s, (not_unknown known s, tt));

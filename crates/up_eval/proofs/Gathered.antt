@@ -24,7 +24,7 @@ use Rattle.up_eval.specs.declared.stop.Stop.{Stop}
 use Rattle.up_eval.specs.declared.stop.Stop.TheVariants as stop
 use Rattle.up_eval.specs.Numbers.{sum_of, difference_of}
 use Rattle.up_eval.specs.Effects.{number_meant, object_meant}
-use Rattle.up_eval.specs.Gathering.{is_shift, first_number, more_shifts, gathered_next, gathered_after, gathered_of, gathered_value, IsGatheredStop, IsMixed, AreGathered, GathersMore, StopsAt, new_numbers, settled_numbers, first_value, Agree, AreFirst, TwoDiffer, FirstOfMore, DiffersFrom}
+use Rattle.up_eval.specs.Gathering.{is_shift, first_number, more_shifts, gathered_next, gathered_after, gathered_of, gathered_value, IsGatheredStop, IsMixed, AreGathered, GathersMore, StopsAt, new_numbers, settled_numbers, first_value, AreUnanimous, AreFirst, TwoDiffer, FirstOfMore, DiffersFrom}
 use Rattle.up_eval.proofs.Initial.{tied, each}
 use Rattle.up_eval.proofs.Fired.{append_nil}
 use Rattle.up_eval.proofs.OfEffects.{every_push}
@@ -333,7 +333,7 @@ no_first : (xs : List ObjectChange) → first_value xs ≡ None → xs ≡ []
 no_first [] e = refl
 no_first (x ∷ xs) e = absurd (some≢none _ e)
 
-agree_more : (before : List ObjectChange) (c : ObjectChange) → Agree before → first_value (objects_at c.target (before ++ c ∷ [])) ≡ Some c.value → Agree (before ++ c ∷ [])
+agree_more : (before : List ObjectChange) (c : ObjectChange) → AreUnanimous before → first_value (objects_at c.target (before ++ c ∷ [])) ≡ Some c.value → AreUnanimous (before ++ c ∷ [])
 agree_more before c all last =
     every_push (λ d. first_value (objects_at d.target (before ++ c ∷ [])) ≡ Some d.value) before c
     (each (λ d. first_value (objects_at d.target before) ≡ Some d.value) (λ d. first_value (objects_at d.target (before ++ c ∷ [])) ≡ Some d.value)
@@ -377,7 +377,7 @@ module _ (m : table.FinMap ground_cmp (Option Name)) (c : ObjectChange) where
 pub none_first : AreFirst [] table.empty
 none_first = record { made = λ t. table.get-empty ground_cmp t; agree = tt }
 
-pub no_two : (cs : List ObjectChange) → Agree cs → ¬ TwoDiffer cs
+pub no_two : (cs : List ObjectChange) → AreUnanimous cs → ¬ TwoDiffer cs
 no_two cs all h =
     let at : (t : Ground) (P : ObjectChange → Type 0) → Somewhere P (objects_at t cs) → (c : ObjectChange) × (first_value (objects_at t cs) ≡ Some c.value) × P c = λ t P k.
     let found : (c : ObjectChange) × (first_value (objects_at c.target cs) ≡ Some c.value) × ((is_at t c.target ≡ true) × P c) =

@@ -5,6 +5,7 @@ pub mod Grounds
 pub mod Numbers
 pub mod Conditions
 pub mod Compared
+pub mod Indexing
 pub mod Fitting
 pub mod Fired
 pub mod Steps

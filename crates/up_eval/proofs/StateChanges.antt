@@ -21,8 +21,8 @@ use Rattle.up_eval.specs.declared.step_error.Why.TheVariants as why
 use Rattle.up_eval.specs.declared.stop.Stop.{Stop}
 use Rattle.up_eval.specs.declared.stop.Stop.TheVariants as stop
 use Rattle.up_eval.specs.Effects.{object_meant, IsNumbersStop}
-use Rattle.up_eval.specs.Gathering.{settled_numbers, put_numbers, put_objects, first_value, Agree, AreApart, IsGatherStop, IsObjectStop}
-use Rattle.up_eval.specs.Steps.{IsRefusal, Fits, ActionHasNone, IsStop, before, all_faults, error_of}
+use Rattle.up_eval.specs.Gathering.{settled_numbers, put_numbers, put_objects, first_value, AreUnanimous, AreApart, IsGatherStop, IsObjectStop}
+use Rattle.up_eval.specs.Steps.{RefusesStep, Fits, ActionHasNone, IsStop, before, all_faults, error_of}
 use Rattle.up_eval.proofs.Fitting.{applies_at, applied_at}
 use Rattle.up_eval.proofs.Gathered.{no_two}
 use Rattle.up_eval.specs.Nexts.{state_with, HaveNoFault, IsNewNumbersStop, IsNewObjectsStop, IsEffectsStop}
@@ -57,7 +57,7 @@ module _ (s : State) where
         ap (put_numbers s.numbers) is
         ∙ fold_map (λ m (n : NewNumber). put m n.target n.value) (λ (c : NumberChange). record { target = c.target; value = new_number (number_at s c.target) (changes_at c.target cs) }) s.numbers cs
 
-    objects_put : (found : List FoundObject) → map object_meant found ≡ of_firing object_change s fs → Agree (of_firing object_change s fs)
+    objects_put : (found : List FoundObject) → map object_meant found ≡ of_firing object_change s fs → AreUnanimous (of_firing object_change s fs)
         → put_objects s.values found
         ≡ fold (λ m (c : ObjectChange). put m c.target (new_object (object_at s c.target) (objects_at c.target (of_firing object_change s fs)))) s.values (of_firing object_change s fs)
     objects_put found is agree =
@@ -65,7 +65,7 @@ module _ (s : State) where
         ∙ ap (fold (λ m (c : ObjectChange). put m c.target c.value) s.values) is ∙ put_same (of_firing object_change s fs) (of_firing object_change s fs) s.values agree
 
     pub changed_is : (c : Changes) → c.deleted ≡ of_firing deleted s fs → c.added ≡ of_firing added s fs → c.numbers ≡ settled_numbers s (of_firing number_change s fs)
-        → map object_meant c.objects ≡ of_firing object_change s fs → Agree (of_firing object_change s fs) → state_with s c ≡ changed s fs
+        → map object_meant c.objects ≡ of_firing object_change s fs → AreUnanimous (of_firing object_change s fs) → state_with s c ≡ changed s fs
     unfolding changed
     changed_is c deletes adds numbers objects agree = λ i. record {
       atoms = set.union (set.difference s.atoms (set.from_list (deletes i))) (set.from_list (adds i));
@@ -115,7 +115,7 @@ module _ (s : State) where
     pub no_mixed : (cs : List NumberChange) → cs ≡ of_firing number_change s fs → AreApart cs → ¬ fault.NumbersConflict s fs
     no_mixed cs is apart h = subst AreApart is apart h.0 h.1
 
-    pub no_conflict : Agree (of_firing object_change s fs) → ¬ fault.ObjectsConflict s fs
+    pub no_conflict : AreUnanimous (of_firing object_change s fs) → ¬ fault.ObjectsConflict s fs
     no_conflict agree h = no_two (of_firing object_change s fs) agree h
 
     module _ (objects : ¬ fault.OfEffect fault.ObjectUndefined s fs) where
@@ -180,7 +180,7 @@ module _ (p : Parts) (s : State) (step : Step) (a : Action) (found : action_name
     can_take none fault.number_conflict h = none.1.0 (applied_at p step a found s fault.number_conflict h)
     can_take none fault.object_conflict h = none.0 (applied_at p step a found s fault.object_conflict h)
 
-    pub step_stops : (e : Stop) → IsStop (world p) s a step.args e → IsRefusal p s step (error_of e)
+    pub step_stops : (e : Stop) → IsStop (world p) s a step.args e → RefusesStep p s step (error_of e)
     step_stops stop.Memory h = tt
     step_stops stop.TooLarge h = ((fits s).1.1.0, (fits s).1.0, (fits s).0, subst (λ o. IsSomeAnd o (λ b. BigAction (world p) s b step.args)) (sym found) h)
     step_stops (stop.Refused why.Precondition) h = record { applies = applies_at p step a found s fault.precondition h.0; first = fits s }

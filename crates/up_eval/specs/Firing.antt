@@ -23,7 +23,7 @@ meant_all fs = map meant fs
 abbrev pub instance_at : Assignment → Row → List Name → Instance
 instance_at e row tuple = record { assignment = assign row.vars tuple e; row = row }
 
--- the effects of the instances that fire stand behind those that were there, and no condition is undefined
+-- the effects of the instances that fire stand after those that were there, and no condition is undefined
 pub record HasFired (w : World) (s : State) (is : List Instance) (old new : List Fired) : Type 0 where
   pub effects : new ≡ old ++ filter_map (fired w s) is
   pub conditions : Every (λ i. ¬ IsUndefined w s i.assignment i.row.when) is

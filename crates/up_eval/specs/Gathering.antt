@@ -113,13 +113,13 @@ first_value [] = None
 first_value (c ∷ more) = Some c.value
 
 -- each change gives its term the value of the term's first change
-abbrev pub Agree : List ObjectChange → Type 0
-Agree changes = Every (λ c. first_value (objects_at c.target changes) ≡ Some c.value) changes
+abbrev pub AreUnanimous : List ObjectChange → Type 0
+AreUnanimous changes = Every (λ c. first_value (objects_at c.target changes) ≡ Some c.value) changes
 
 -- the table has the first value of each term, and the changes agree
 pub record AreFirst (changes : List ObjectChange) (m : table.FinMap ground_cmp (Option Name)) : Type 0 where
   pub made : (t : Ground) → table.get m t ≡ first_value (objects_at t changes)
-  pub agree : Agree changes
+  pub agree : AreUnanimous changes
 
 -- two changes of one term differ
 abbrev pub TwoDiffer : List ObjectChange → Type 0

@@ -6,6 +6,7 @@ pub mod Conditions
 pub mod Metrics
 pub mod Firing
 pub mod Steps
+pub mod Index
 pub mod Arguments
 pub mod Effects
 pub mod Gathering

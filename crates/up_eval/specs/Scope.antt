@@ -14,7 +14,7 @@ found_in name (b ∷ bs) found = found_in name bs (if same_name b.variable name 
 abbrev pub assignment_of : List Binding → Assignment
 assignment_of scope name = found_in name scope None
 
--- the tuples, each behind an object
+-- the tuples, each after an object
 abbrev pub with_first : Name → List (List Name) → List (List Name)
 with_first o rests = map (λ rest. o ∷ rest) rests
 

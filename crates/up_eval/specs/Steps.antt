@@ -28,21 +28,21 @@ fault_of why.NumberConflict = fault.number_conflict
 fault_of why.ObjectConflict = fault.object_conflict
 
 -- the refusal is the step's first fault, or a number is past the bound
-abbrev pub IsRefusal : Parts → State → Step → StepError → Type 0
-IsRefusal p s step refused.Memory = ⊤
-IsRefusal p s step refused.Unknown = fault.IsFirstFault p s step fault.unknown
-IsRefusal p s step refused.Arity = fault.IsFirstFault p s step fault.arity
-IsRefusal p s step refused.ArgumentType = fault.IsFirstFault p s step fault.argument_type
-IsRefusal p s step (refused.NotApplicable w) = fault.IsFirstFault p s step (fault_of w)
-IsRefusal p s step refused.TooLarge = IsBigStep p s step
+abbrev pub RefusesStep : Parts → State → Step → StepError → Type 0
+RefusesStep p s step refused.Memory = ⊤
+RefusesStep p s step refused.Unknown = fault.IsFirstFault p s step fault.unknown
+RefusesStep p s step refused.Arity = fault.IsFirstFault p s step fault.arity
+RefusesStep p s step refused.ArgumentType = fault.IsFirstFault p s step fault.argument_type
+RefusesStep p s step (refused.NotApplicable w) = fault.IsFirstFault p s step (fault_of w)
+RefusesStep p s step refused.TooLarge = IsBigStep p s step
 
 -- none of the faults applies
 abbrev pub HasNone : Parts → State → Step → List fault.Fault → Type 0
 HasNone p s step faults = Every (λ other. ¬ fault.Applies p s step other) faults
 
 -- in whatever state
-abbrev pub IsUnfit : Parts → Step → StepError → Type 0
-IsUnfit p step e = (s : State) → IsRefusal p s step e
+abbrev pub IsIllTyped : Parts → Step → StepError → Type 0
+IsIllTyped p step e = (s : State) → RefusesStep p s step e
 
 abbrev pub Fits : Parts → Step → Type 0
 Fits p step = (s : State) → HasNone p s step (fault.earlier fault.precondition)

@@ -3,7 +3,7 @@ ghost use Rattle.std.specs.FinMap as table;
 ghost use Rattle.up_tree.specs.State.{number_at};
 ghost use Rattle.up_tree.specs.Big.{IsBigNumber};
 ghost use Rattle.up_eval.specs.Effects.{number_meant, object_meant};
-ghost use Rattle.up_eval.specs.Gathering.{is_shift, first_number, gathered_next, gathered_after, gathered_value, new_numbers, IsGatheredStop, AreGathered, IsGatherStop, GathersMore, StopsAt, settled_numbers, AreApart, Agree, FirstOfMore, DiffersFrom, IsObjectStop};
+ghost use Rattle.up_eval.specs.Gathering.{is_shift, first_number, gathered_next, gathered_after, gathered_value, new_numbers, IsGatheredStop, AreGathered, IsGatherStop, GathersMore, StopsAt, settled_numbers, AreApart, AreUnanimous, FirstOfMore, DiffersFrom, IsObjectStop};
 
 use crate::changes::{NumberChange, ObjectChange};
 use crate::error::TooLarge;
@@ -118,7 +118,7 @@ fn with_first(
 
 /// Refuses changes that give one term different objects.
 pub(crate) fn check_objects(alloc: Global, changes: &[ObjectChange]) -> Result<(), Stop>
-    ensures agree { OnOk result (Agree (map object_meant changes.now)) }
+    ensures agree { OnOk result (AreUnanimous (map object_meant changes.now)) }
     ensures stop { IfErr result (IsObjectStop (map object_meant changes.now)) }
 {
     let mut firsts = Table::new(alloc);

@@ -8,6 +8,7 @@ mod error;
 mod firing;
 mod gathering;
 mod ground;
+mod index;
 mod metric;
 mod next;
 mod number;
@@ -22,6 +23,7 @@ mod unassigned;
 mod value;
 
 pub use error::{TooLarge, TruthError};
+pub use index::Index;
 pub use metric::Value;
 pub use scope::{Binding, assigned, tuples};
 pub use state::State;

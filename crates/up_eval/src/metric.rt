@@ -62,22 +62,22 @@ impl State {
             Expr::Sum(a, b) => {
                 let left = self.unassigned_number(a.get())?;
                 let right = self.unassigned_number(b.get())?;
-                Ok(sum_of(left, right)?)
+                sum_of(left, right)
             }
             Expr::Difference(a, b) => {
                 let left = self.unassigned_number(a.get())?;
                 let right = self.unassigned_number(b.get())?;
-                Ok(difference_of(left, right)?)
+                difference_of(left, right)
             }
             Expr::Product(a, b) => {
                 let left = self.unassigned_number(a.get())?;
                 let right = self.unassigned_number(b.get())?;
-                Ok(product_of(left, right)?)
+                product_of(left, right)
             }
             Expr::Quotient(a, b) => {
                 let left = self.unassigned_number(a.get())?;
                 let right = self.unassigned_number(b.get())?;
-                Ok(quotient_of(left, right)?)
+                quotient_of(left, right)
             }
         }
     }

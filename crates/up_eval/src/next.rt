@@ -1,12 +1,13 @@
-ghost use Rattle.std.specs.Prelude.{◌≡◌, IfOk, IfErr, OnOk, OnErr, map};
+ghost use Rattle.std.specs.Prelude.{◌≡◌, IfOk, IfErr, IfSome, OnOk, OnErr, map};
 ghost use Rattle.up_tree.specs.Objects.{world};
 ghost use Rattle.up_tree.specs.Instances.{firing};
 ghost use Rattle.up_tree.specs.Changes.{number_change, object_change, added, deleted, of_firing, changed};
 ghost use Rattle.up_tree.specs.Faults.{OfEffect, NumberUndefined, NumbersConflict, ObjectsConflict, CanTake, IsNext};
 ghost use Rattle.up_eval.specs.Firing.{meant_all};
 ghost use Rattle.up_eval.specs.Effects.{object_meant};
-ghost use Rattle.up_eval.specs.Gathering.{settled_numbers, Agree};
-ghost use Rattle.up_eval.specs.Steps.{ActionHasNone, IsStop, IsRefusal, all_faults};
+ghost use Rattle.up_eval.specs.Index.{IsIndexOf};
+ghost use Rattle.up_eval.specs.Gathering.{settled_numbers, AreUnanimous};
+ghost use Rattle.up_eval.specs.Steps.{ActionHasNone, IsStop, RefusesStep, all_faults};
 ghost use Rattle.up_eval.specs.Nexts.{state_with, StaysOf, HaveNoFault, IsNewNumbersStop, IsNewObjectsStop, IsEffectsStop};
 
 use crate::arguments::fitting_action;
@@ -14,6 +15,7 @@ use crate::changes::ObjectChange;
 use crate::firing::Firing;
 use crate::gathering::{NewNumber, check_objects};
 use crate::ground::Ground;
+use crate::index::Index;
 use crate::state::State;
 use crate::step_error::{StepError, Why};
 use crate::stop::Stop;
@@ -48,7 +50,7 @@ impl State {
         effects: &[Firing<'_>],
     ) -> Result<List<ObjectChange>, Stop>
         ensures value { IfOk result (λ changes. map object_meant changes ≡ of_firing object_change self.now (meant_all effects.now)) }
-        ensures agree { OnOk result (Agree (of_firing object_change self.now (meant_all effects.now))) }
+        ensures agree { OnOk result (AreUnanimous (of_firing object_change self.now (meant_all effects.now))) }
         ensures stop { IfErr result (IsNewObjectsStop self.now (meant_all effects.now)) }
     {
         let changes = self.object_changes(alloc, effects)?;
@@ -113,13 +115,20 @@ impl State {
     }
 
     // What the step changes, where it can be taken.
-    fn changes(&self, alloc: Global, p: &Problem, step: &Step) -> Result<Changes, StepError>
+    fn changes(
+        &self,
+        alloc: Global,
+        p: &Problem,
+        index: Option<&Index<'_>>,
+        step: &Step,
+    ) -> Result<Changes, StepError>
+        requires { IfSome index (λ it. IsIndexOf p.now it.now) }
         ensures next { IfOk result (λ c. IsNext p.now self.now step.now (state_with self.now c)) }
         ensures typed { IfOk result (λ c. StaysOf p.now self.now (state_with self.now c)) }
         ensures can { OnOk result (CanTake p.now self.now step.now) }
-        ensures refused { IfErr result (IsRefusal p.now self.now step.now) }
+        ensures refused { IfErr result (RefusesStep p.now self.now step.now) }
     {
-        let action = fitting_action(p, step)?;
+        let action = fitting_action(p, index, step)?;
         match self.action_changes(alloc, p, action, step.args.as_slice()) {
             Ok(changes) => Ok(changes),
             Err(stop) => Err(stop.error()),
@@ -136,11 +145,30 @@ impl State {
         ensures next { IfOk result (IsNext p.now self.now step.now) }
         ensures typed { IfOk result (StaysOf p.now self.now) }
         ensures can { OnOk result (CanTake p.now self.now step.now) }
-        ensures refused { IfErr result (IsRefusal p.now self.now step.now) }
+        ensures refused { IfErr result (RefusesStep p.now self.now step.now) }
     {
-        let changes = self.changes(alloc, p, step)?;
+        let changes = self.changes(alloc, p, None, step)?;
         let next = self.copy(alloc)?;
         let next = next.changed(alloc, changes)?;
+        Ok(next)
+    }
+
+    // The state after a step, in place of this one. The step's names are looked up in the index where there is one.
+    fn stepped(
+        self,
+        alloc: Global,
+        p: &Problem,
+        index: Option<&Index<'_>>,
+        step: &Step,
+    ) -> Result<State, StepError>
+        requires { IfSome index (λ it. IsIndexOf p.now it.now) }
+        ensures next { IfOk result (IsNext p.now self step.now) }
+        ensures typed { IfOk result (StaysOf p.now self) }
+        ensures can { OnOk result (CanTake p.now self step.now) }
+        ensures refused { IfErr result (RefusesStep p.now self step.now) }
+    {
+        let changes = self.changes(alloc, p, index, step)?;
+        let next = self.changed(alloc, changes)?;
         Ok(next)
     }
 
@@ -152,11 +180,27 @@ impl State {
         ensures next { IfOk result (IsNext p.now self step.now) }
         ensures typed { IfOk result (StaysOf p.now self) }
         ensures can { OnOk result (CanTake p.now self step.now) }
-        ensures refused { IfErr result (IsRefusal p.now self step.now) }
+        ensures refused { IfErr result (RefusesStep p.now self step.now) }
     {
-        let changes = self.changes(alloc, p, step)?;
-        let next = self.changed(alloc, changes)?;
-        Ok(next)
+        self.stepped(alloc, p, None, step)
+    }
+
+    /// The state after a step, in place of this one, as `after` makes it. The step's names are looked up in the index, so that the time
+    /// grows with what the step touches, not with the problem's objects. The errors are those of `step`.
+    pub fn after_by(
+        self,
+        alloc: Global,
+        p: &Problem,
+        index: &Index<'_>,
+        step: &Step,
+    ) -> Result<State, StepError>
+        requires { IsIndexOf p.now index.now }
+        ensures next { IfOk result (IsNext p.now self step.now) }
+        ensures typed { IfOk result (StaysOf p.now self) }
+        ensures can { OnOk result (CanTake p.now self step.now) }
+        ensures refused { IfErr result (RefusesStep p.now self step.now) }
+    {
+        self.stepped(alloc, p, Some(index), step)
     }
 
     /// Takes a step: the state becomes the one after it (PDDL 2.1, Fox and Long 2003).
@@ -167,7 +211,7 @@ impl State {
         ensures next { OnOk result (IsNext p.now self.old step.now self.new) }
         ensures typed { OnOk result (StaysOf p.now self.old self.new) }
         ensures can { OnOk result (CanTake p.now self.old step.now) }
-        ensures refused { IfErr result (IsRefusal p.now self.old step.now) }
+        ensures refused { IfErr result (RefusesStep p.now self.old step.now) }
         ensures stays { OnErr result (self.new ≡ self.old) }
     {
         let next = self.step(self.alloc, p, step)?;

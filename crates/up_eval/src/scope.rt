@@ -18,20 +18,21 @@ impl Binding {
     fn copy(&self, alloc: Global) -> Result<Binding, Memory>
         ensures { IfOk result (λ copy. copy ≡ self.now) }
     {
-        Ok(Binding {
-            variable: self.variable.copy(alloc)?,
-            object: self.object.copy(alloc)?,
-        })
+        Binding::new(alloc, &self.variable, &self.object)
     }
 
     fn new(alloc: Global, variable: &Name, object: &Name) -> Result<Binding, Memory>
         ensures variable { IfOk result (λ b. b.variable ≡ variable.now) }
         ensures object { IfOk result (λ b. b.object ≡ object.now) }
     {
-        Ok(Binding {
-            variable: variable.copy(alloc)?,
-            object: object.copy(alloc)?,
-        })
+        let variable = variable.copy(alloc)?;
+        match object.copy(alloc) {
+            Ok(object) => Ok(Binding { variable, object }),
+            Err(memory) => {
+                drop(variable);
+                Err(memory)
+            }
+        }
     }
 }
 

@@ -46,8 +46,7 @@ impl State {
             Term::Object(name) => Ok(Some(name.copy(alloc)?)),
             Term::Fluent(name, args) => {
                 let ground = self.ground(alloc, scope, name, args.as_slice())?;
-                let object = self.object_copy(alloc, ground)?;
-                Ok(object)
+                self.object_copy(alloc, ground)
             }
         }
     }

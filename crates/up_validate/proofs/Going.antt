@@ -1,4 +1,4 @@
--- The phases of all constraints behind one more state, constraint by constraint.
+-- The phases of all constraints after one more state, constraint by constraint.
 use Rattle.std.proofs.Common.{◌≡◌, ◌⊎◌, ℕ, zero, suc, ◌+◌, ◌<◌, List, [], ◌∷◌, ◌++◌, map, length, drop, get_or, refl, ap, sym, ◌∙◌, subst, inl, inr, append_assoc}
 use Rattle.std.specs.Prelude.{Result, Ok, Err, IsErrAnd, IsErrOf}
 use Rattle.std.proofs.lemmas.List.{drop_more}

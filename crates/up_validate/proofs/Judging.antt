@@ -28,7 +28,7 @@ use Rattle.up_validate.specs.Watching.{all_after}
 use Rattle.up_validate.specs.Watches.{first_unkept}
 use Rattle.up_validate.specs.Verdicts.{After, IsVerdict, IsUnjudged, IsValid, LeavesGoal, Breaks, MeetsBig, meant, in_goal, in_metric}
 use Rattle.up_validate.specs.Verdicts as judged
-use Rattle.up_validate.specs.Runs.{StandsBehind, Halts, HaltsBig}
+use Rattle.up_validate.specs.Runs.{StandsAfter, Halts, HaltsBig}
 use Rattle.up_validate.specs.Runs as run
 use Rattle.up_validate.proofs.Watching.{all_kept, first_broken}
 use Rattle.up_validate.proofs.Running.{of_last, last_of}
@@ -43,7 +43,7 @@ module _ (p : Parts) (plan : Plan) where
 
   -- ---- a run of all steps
 
-  module _ (at : Run) (stands : StandsBehind p plan.steps at) where
+  module _ (at : Run) (stands : StandsAfter p plan.steps at) where
     after_all : (What : State → Type 0) → What at.state → After p plan.steps (length plan.steps) What
     after_all What x = record {
       states = stands.before ++ at.state ∷ [];

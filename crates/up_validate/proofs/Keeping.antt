@@ -1,4 +1,4 @@
--- The phase of a rule behind a run says whether the run keeps it.
+-- The phase of a rule after a run says whether the run keeps it.
 use Rattle.std.proofs.Common.{◌≡◌, ◌⊎◌, ℕ, zero, suc, ◌<◌, ◌≤◌, Bool, true, false, List, [], ◌∷◌, IsSomeAnd, refl, ap, sym, ◌∙◌, subst, inl, inr, arith}
 use Rattle.std.specs.Prelude.{slice_get}
 use Rattle.up_text.specs.Lists.{Every, Somewhere}

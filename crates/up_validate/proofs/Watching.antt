@@ -1,4 +1,4 @@
--- The phases behind one more state, and what those behind a run say of its constraints.
+-- The phases after one more state, and what those after a run say of its constraints.
 use Rattle.std.proofs.Common.{◌≡◌, ◌⊎◌, ℕ, zero, suc, ◌+◌, Bool, true, false, cond, List, [], ◌∷◌, ◌++◌, map, take, drop, Option, Some, None, refl, ap, sym, ◌∙◌, subst, inl, inr, arith}
 use Rattle.std.specs.Prelude.{slice_get, ◌&&◌, if◌then◌else◌}
 use Rattle.up_text.specs.declared.name.Name.{Name}

@@ -23,13 +23,13 @@ use Rattle.up_validate.specs.Verdicts.{named_fault, After, AtStep, BigConstraint
 abbrev pub AreWatches : Parts → List Watch → Type 0
 AreWatches p watches = meant_all watches ≡ map (assignments (world p)) p.constraints
 
--- these steps can be taken, and the run stands behind them
-pub record StandsBehind (p : Parts) (steps : List Step) (run : Run) : Type 0 where
+-- these steps can be taken, and the run stands after them
+pub record StandsAfter (p : Parts) (steps : List Step) (run : Run) : Type 0 where
   pub before : List State
   pub runs : RunsFrom p (init p) steps (before ++ run.state ∷ [])
   pub phases : run.phases ≡ all_after (world p) p.constraints (before ++ run.state ∷ [])
 
--- the constraints stand so behind one more state
+-- the constraints stand so after one more state
 abbrev pub GoOn : Parts → State → List (List Phase) → List (List Phase) → Type 0
 GoOn p s old new = (before : List State) → old ≡ all_after (world p) p.constraints before → new ≡ all_after (world p) p.constraints (before ++ s ∷ [])
 
@@ -40,13 +40,13 @@ pub record Follows (p : Parts) (step : Step) (old new : Run) : Type 0 where
   pub phases : GoOn p new.state old.phases new.phases
 
 -- a constraint has a number past the bound in a state
-abbrev pub IsBigBehind : Parts → State → ℕ → Halt → Type 0
-IsBigBehind p s number halt.Memory = ⊤
-IsBigBehind p s number (halt.TooLarge step) = (step ≡ number) × BigConstraint p s
-IsBigBehind p s number (halt.BadStep step reason) = ⊥
+abbrev pub IsBigAfter : Parts → State → ℕ → Halt → Type 0
+IsBigAfter p s number halt.Memory = ⊤
+IsBigAfter p s number (halt.TooLarge step) = (step ≡ number) × BigConstraint p s
+IsBigAfter p s number (halt.BadStep step reason) = ⊥
 
 -- a step leaves a state of which this is said
-pub record Leaves (p : Parts) (step : Step) (old : State) (What : State → Type 0) : Type 0 where
+pub record AfterStep (p : Parts) (step : Step) (old : State) (What : State → Type 0) : Type 0 where
   pub state : State
   pub taken : fault.CanTake p old step
   pub next : fault.IsNext p old step state
@@ -57,7 +57,7 @@ pub data HaltsAt (p : Parts) (old : State) (number : ℕ) (step : Step) : Halt �
   memory : HaltsAt p old number step halt.Memory
   bad : (reason : _) → fault.IsFirstFault p old step (named_fault reason) → HaltsAt p old number step (halt.BadStep number reason)
   big : IsBigStep p old step → HaltsAt p old number step (halt.TooLarge number)
-  big_behind : Leaves p step old (BigConstraint p) → HaltsAt p old number step (halt.TooLarge (suc number))
+  big_after : AfterStep p step old (BigConstraint p) → HaltsAt p old number step (halt.TooLarge (suc number))
 
 -- where a number past the bound is met
 pub data HaltsBig (p : Parts) (steps : List Step) (number : ℕ) : Type 0 where

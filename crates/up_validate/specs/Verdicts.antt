@@ -99,7 +99,7 @@ BigRule w s e (rule.SometimeBefore f g) = BigFormula w s e f ⊎ BigFormula w s 
 abbrev pub BigConstraint : Parts → State → Type 0
 BigConstraint p s = Somewhere (λ c. Somewhere (λ e. BigRule (world p) s e c.rule) (assignments (world p) c)) p.constraints
 
--- where a number past the bound is met: in a step, in the goal or the metric behind the last step, or in a constraint
+-- where a number past the bound is met: in a step, in the goal or the metric after the last step, or in a constraint
 pub data MeetsBig (p : Parts) (plan : Plan) (number : ℕ) : Type 0 where
   in_step : AtStep p plan.steps number (IsBigStep p) → MeetsBig p plan number
   in_goal : number ≡ suc (length plan.steps) → After p plan.steps (length plan.steps) (IsBigGoal p) → MeetsBig p plan number

@@ -25,7 +25,7 @@ abbrev pub all_starts : List Constraint → List (List Assignment) → List (Lis
 all_starts (c ∷ cs) (es ∷ more) = starts c.rule es ∷ all_starts cs more
 all_starts cs more = []
 
--- behind one more state
+-- after one more state
 abbrev pub nexts : World → State → Rule → List Assignment → List Phase → List Phase
 nexts w s r (e ∷ es) (ph ∷ phs) = next w e r ph s ∷ nexts w s r es phs
 nexts w s r es phs = []

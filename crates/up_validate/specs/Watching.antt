@@ -48,7 +48,7 @@ before_next ph holds other = ph
 abbrev pub holds_in : World → State → Assignment → Formula → Bool
 holds_in w s e f = is_true (truth_of w s e f)
 
--- behind one more state
+-- after one more state
 abbrev pub next : World → Assignment → Rule → Phase → State → Phase
 next w e (rule.Always f) ph s = always_next ph (holds_in w s e f)
 next w e (rule.Sometime f) ph s = sometime_next ph (holds_in w s e f)
@@ -56,7 +56,7 @@ next w e (rule.AtMostOnce f) ph s = once_next ph (holds_in w s e f)
 next w e (rule.SometimeAfter f g) ph s = after_next ph (holds_in w s e f) (holds_in w s e g)
 next w e (rule.SometimeBefore f g) ph s = before_next ph (holds_in w s e f) (holds_in w s e g)
 
--- behind more states, each of which leads on so
+-- after more states, each of which leads on so
 abbrev pub goes : (Phase → State → Phase) → Phase → List State → Phase
 goes on ph [] = ph
 goes on ph (s ∷ states) = goes on (on ph s) states
@@ -70,7 +70,7 @@ is_kept phase.Waiting = false
 is_kept phase.Broken = false
 is_kept ph = true
 
--- behind these states, under each assignment
+-- after these states, under each assignment
 abbrev pub phases_after : World → List State → Constraint → List Phase
 phases_after w states c = map (λ e. phase_after w e c.rule states) (assignments w c)
 

@@ -2,12 +2,12 @@ ghost use Rattle.std.specs.Prelude.{IfOk, IfErr};
 ghost use Rattle.up_tree.specs.Objects.{world, unassigned};
 ghost use Rattle.up_tree.specs.Judged.{Judges};
 ghost use Rattle.up_tree.specs.Truth.{True};
-ghost use Rattle.up_validate.specs.Runs.{StandsBehind, Halts};
+ghost use Rattle.up_validate.specs.Runs.{StandsAfter, Halts};
 ghost use Rattle.up_validate.specs.Verdicts.{IsVerdict, IsUnjudged};
 
 use crate::run::{Halt, Run, run_of};
 use crate::verdict::{ValidateError, Verdict};
-use crate::watch::{first_unkept, watches_of};
+use crate::watch::first_unkept;
 use std::alloc::Global;
 use up_eval::{Truth, TruthError};
 use up_tree::{Plan, Problem};
@@ -21,9 +21,12 @@ pub fn validate(alloc: Global, p: &Problem, plan: &Plan) -> Result<Verdict, Vali
     ensures verdict { IfOk result (IsVerdict p.now plan.now) }
     ensures unjudged { IfErr result (IsUnjudged p.now plan.now) }
 {
-    let watches = watches_of(alloc, p, p.parts().constraints.as_slice())?;
-    match run_of(alloc, p, watches.as_slice(), plan.steps.as_slice()) {
-        Ok(run) => judged(alloc, p, plan, &run),
+    match run_of(alloc, p, plan.steps.as_slice()) {
+        Ok(run) => {
+            let verdict = judged(alloc, p, plan, &run);
+            drop(run);
+            verdict
+        }
         Err(halt) => halted(p, plan, halt),
     }
 }
@@ -43,7 +46,7 @@ fn halted(p: &Problem, plan: &Plan, halt: Halt) -> Result<Verdict, ValidateError
 
 // What a plan is whose steps can all be taken.
 fn judged(alloc: Global, p: &Problem, plan: &Plan, run: &Run) -> Result<Verdict, ValidateError>
-    requires { StandsBehind p.now plan.now.steps run.now }
+    requires { StandsAfter p.now plan.now.steps run.now }
     ensures verdict { IfOk result (IsVerdict p.now plan.now) }
     ensures unjudged { IfErr result (IsUnjudged p.now plan.now) }
 {
@@ -58,7 +61,7 @@ fn judged(alloc: Global, p: &Problem, plan: &Plan, run: &Run) -> Result<Verdict,
 
 // What a plan is in whose last state the goal has this truth.
 fn ended(p: &Problem, plan: &Plan, run: &Run, goal: Truth) -> Result<Verdict, ValidateError>
-    requires stands { StandsBehind p.now plan.now.steps run.now }
+    requires stands { StandsAfter p.now plan.now.steps run.now }
     requires judges { Judges (world p.now) run.now.state unassigned p.now.goal goal }
     ensures verdict { IfOk result (IsVerdict p.now plan.now) }
     ensures unjudged { IfErr result (IsUnjudged p.now plan.now) }
@@ -72,7 +75,7 @@ fn ended(p: &Problem, plan: &Plan, run: &Run, goal: Truth) -> Result<Verdict, Va
 
 // What a plan is that reaches the goal.
 fn reached(p: &Problem, plan: &Plan, run: &Run) -> Result<Verdict, ValidateError>
-    requires stands { StandsBehind p.now plan.now.steps run.now }
+    requires stands { StandsAfter p.now plan.now.steps run.now }
     requires goal { True (world p.now) run.now.state unassigned p.now.goal }
     ensures verdict { IfOk result (IsVerdict p.now plan.now) }
     ensures unjudged { IfErr result (IsUnjudged p.now plan.now) }

@@ -3,7 +3,7 @@ ghost use Rattle.up_validate.specs.Watching.{start, always_next, sometime_next, 
 
 use up_tree::Rule;
 
-/// How a rule stands behind some states of a run.
+/// How a rule stands after some states of a run.
 #[derive(Clone, Copy, Debug, PartialEq, Eq)]
 pub(crate) enum Phase {
     /// It is kept where the run ends here.

@@ -109,7 +109,7 @@ fn holds(
     Ok(truth == Truth::True)
 }
 
-// How a rule stands behind one more state.
+// How a rule stands after one more state.
 fn next(
     alloc: Global,
     p: &Problem,
@@ -138,7 +138,7 @@ fn next(
     }
 }
 
-// How a constraint stands behind one more state, tuple by tuple.
+// How a constraint stands after one more state, tuple by tuple.
 #[tactic(auto, using(crate::proofs::Going::big_scope))]
 fn nexts(
     alloc: Global,
@@ -163,7 +163,7 @@ fn nexts(
     Ok(later)
 }
 
-/// How the constraints stand behind one more state.
+/// How the constraints stand after one more state.
 pub(crate) fn all_nexts(
     alloc: Global,
     p: &Problem,

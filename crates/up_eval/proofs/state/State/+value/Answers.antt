@@ -11,11 +11,3 @@ ground-loop-arg-preserved t c =
     c.loop-arg.invariant
     ∙ grounds_next c.args.self.now (assignment_of c.args.scope.now) c.args.args.now c.loop-arg.arg-index c.arg-item.result _ _ c.in-Some.object
     c.loop-arg-test.true c.arg-item.is (sym c.in_ok-object.ensures ∙ c.in-Some.is) c.in_ok-push-in-Some.ensures.ok
-
-pub value-returns-in_ok-object-in-Fluent : goal.value-returns-in_ok-object-in-Fluent
-value-returns-in_ok-object-in-Fluent t c =
-    let s = c.args.self.now in
-    let e = assignment_of c.args.scope.now in
-    c.in_ok-object-in-Fluent.ensures
-    ∙ ap (option_and_then (object_at s)) (c.in_ok-ground-in-Fluent.ensures ∙ ap (ground_at s e c.in-Fluent.name) c.as_slice.ensures)
-    ∙ sym (term_value-Fluent s e c.in-Fluent.name c.in-Fluent.args) ∙ ap (term_value s e) (sym c.in-Fluent.is)

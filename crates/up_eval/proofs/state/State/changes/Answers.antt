@@ -2,7 +2,7 @@ use Rattle.std.proofs.Common.{ap, sym, subst, ◌∙◌}
 use Rattle.up_tree.specs.Objects.{world}
 use Rattle.up_tree.specs.Instances.{firing}
 use Rattle.up_tree.specs.Changes.{changed}
-use Rattle.up_eval.specs.Steps.{IsRefusal, IsStop, ActionHasNone, all_faults}
+use Rattle.up_eval.specs.Steps.{RefusesStep, IsStop, ActionHasNone, all_faults}
 use Rattle.up_eval.proofs.Stops.{stopped}
 use Rattle.up_eval.proofs.StateChanges.{can_take, step_stops, next_is}
 use Rattle.up_eval.proofs.Stays.{next_stays}
@@ -10,7 +10,7 @@ use Rattle.up_eval.proofs.state.State.changes.Goals as goal
 
 pub returns-in_err-action-clause-refused : goal.returns-in_err-action-clause-refused
 returns-in_err-action-clause-refused c =
-    stopped c.from_residual.result _ c.from_residual.ensures.1 (IsRefusal c.args.p.now c.args.self.now c.args.step.now) (c.in_err-action.ensures.refused c.args.self.now)
+    stopped c.from_residual.result _ c.from_residual.ensures.1 (RefusesStep c.args.p.now c.args.self.now c.args.step.now) (c.in_err-action.ensures.refused c.args.self.now)
 
 pub returns-in-Ok-clause-next : goal.returns-in-Ok-clause-next
 returns-in-Ok-clause-next c =
@@ -30,7 +30,7 @@ pub returns-in-Err-clause-refused : goal.returns-in-Err-clause-refused
 returns-in-Err-clause-refused c =
     let p = c.args.p.now in
     let s = c.args.self.now in
-    subst (IsRefusal p s c.args.step.now) (sym c.error.ensures)
+    subst (RefusesStep p s c.args.step.now) (sym c.error.ensures)
     (step_stops p s c.args.step.now c.in_ok-action.action.now c.in_ok-action.ensures.action c.in_ok-action.ensures.fits _
     (subst (λ args. IsStop (world p) s c.in_ok-action.action.now args c.in-Err.stop) c.as_slice.ensures c.in-Err.ensures.stop))
 

@@ -1,7 +1,7 @@
 use Rattle.std.proofs.Common.{map, ap, subst, ◌∙◌}
 use Rattle.up_eval.specs.Firing.{meant_all}
 use Rattle.up_eval.specs.Effects.{object_meant}
-use Rattle.up_eval.specs.Gathering.{Agree}
+use Rattle.up_eval.specs.Gathering.{AreUnanimous}
 use Rattle.up_eval.specs.Nexts.{IsNewObjectsStop}
 use Rattle.up_eval.proofs.Stops.{stopped}
 use Rattle.up_eval.proofs.StateChanges.{objects_stop}
@@ -15,4 +15,4 @@ returns-in_err-check_objects-clause-stop c =
     (objects_stop s fs _ (ap (map object_meant) c.as_slice.ensures ∙ c.in_ok-changes.ensures) _ c.in_err-check_objects.ensures.stop)
 
 pub returns-clause-agree : goal.returns-clause-agree
-returns-clause-agree c = subst Agree (ap (map object_meant) c.as_slice.ensures ∙ c.in_ok-changes.ensures) c.in_ok-check_objects.ensures.agree
+returns-clause-agree c = subst AreUnanimous (ap (map object_meant) c.as_slice.ensures ∙ c.in_ok-changes.ensures) c.in_ok-check_objects.ensures.agree
