@@ -48,14 +48,16 @@ fn reads(alloc: Global, text: &[u8], other: &str, due: Due<'_>) -> bool {
         File::Domain => read_problem(alloc, text, other.as_bytes()),
         File::Problem => read_problem(alloc, other.as_bytes(), text),
     };
-    is_due(&outcome, due)
+    let is_read = is_due(&outcome, due);
+    drop(outcome);
+    is_read
 }
 
 // Whether the row's text, in its frame and without its mark, reads as the row says.
 fn holds(alloc: Global, frame: &Frame, row: Row) -> Result<bool, AllocError> {
     let (text, word, name) = row;
     let [first, second] = frame.before;
-    let marked = format!(in alloc; "{first}{second}{text}{}", frame.behind)?;
+    let marked = format!(in alloc; "{first}{second}{text}{}", frame.after)?;
     let marked = marked.as_str().as_bytes();
     let due = Due {
         file: frame.gap,

@@ -9,7 +9,7 @@ pub(crate) type Row = (&'static str, &'static str, &'static str);
 pub(crate) struct Frame {
     pub gap: File,
     pub before: [&'static str; 2],
-    pub behind: &'static str,
+    pub after: &'static str,
     pub other: &'static str,
 }
 
@@ -476,7 +476,7 @@ pub(crate) const TABLES: [(Frame, &[Row]); 13] = [
         Frame {
             gap: File::Domain,
             before: ["", ""],
-            behind: "",
+            after: "",
             other: GRIPPER_PROBLEM,
         },
         WHOLE_DOMAINS,
@@ -485,7 +485,7 @@ pub(crate) const TABLES: [(Frame, &[Row]); 13] = [
         Frame {
             gap: File::Domain,
             before: ["", ""],
-            behind: "",
+            after: "",
             other: DOORS_PROBLEM,
         },
         OTHER_TYPES,
@@ -494,7 +494,7 @@ pub(crate) const TABLES: [(Frame, &[Row]); 13] = [
         Frame {
             gap: File::Domain,
             before: ["", ""],
-            behind: "",
+            after: "",
             other: NO_GOAL,
         },
         CUT_DOMAINS,
@@ -503,7 +503,7 @@ pub(crate) const TABLES: [(Frame, &[Row]); 13] = [
         Frame {
             gap: File::Problem,
             before: ["", ""],
-            behind: "",
+            after: "",
             other: DOORS,
         },
         WHOLE_PROBLEMS,
@@ -512,7 +512,7 @@ pub(crate) const TABLES: [(Frame, &[Row]); 13] = [
         Frame {
             gap: File::Problem,
             before: ["", ""],
-            behind: "",
+            after: "",
             other: PLACES,
         },
         OBJECT_VALUES,
@@ -521,7 +521,7 @@ pub(crate) const TABLES: [(Frame, &[Row]); 13] = [
         Frame {
             gap: File::Domain,
             before: ["(define (domain d) ", ""],
-            behind: ")",
+            after: ")",
             other: NO_GOAL,
         },
         DECLARATIONS,
@@ -530,7 +530,7 @@ pub(crate) const TABLES: [(Frame, &[Row]); 13] = [
         Frame {
             gap: File::Problem,
             before: ["(define (problem x) ", ""],
-            behind: ")",
+            after: ")",
             other: VALUES,
         },
         PROBLEMS,
@@ -542,7 +542,7 @@ pub(crate) const TABLES: [(Frame, &[Row]); 13] = [
                 "(define (problem x) (:domain d) (:objects a - u b - t c) (:init ",
                 "",
             ],
-            behind: ") (:goal ()))",
+            after: ") (:goal ()))",
             other: VALUES,
         },
         INITIAL_STATES,
@@ -551,7 +551,7 @@ pub(crate) const TABLES: [(Frame, &[Row]); 13] = [
         Frame {
             gap: File::Domain,
             before: [DECLARED_OPEN, ""],
-            behind: ")",
+            after: ")",
             other: NO_GOAL,
         },
         ACTIONS,
@@ -563,7 +563,7 @@ pub(crate) const TABLES: [(Frame, &[Row]); 13] = [
                 DECLARED_OPEN,
                 "(:action x :parameters (?b - b ?a - a) :precondition ",
             ],
-            behind: "))",
+            after: "))",
             other: NO_GOAL,
         },
         CONDITIONS_OF_ACTIONS,
@@ -575,7 +575,7 @@ pub(crate) const TABLES: [(Frame, &[Row]); 13] = [
                 DECLARED_OPEN,
                 "(:action x :parameters (?b - b ?a - a) :effect ",
             ],
-            behind: "))",
+            after: "))",
             other: NO_GOAL,
         },
         EFFECTS,
@@ -584,7 +584,7 @@ pub(crate) const TABLES: [(Frame, &[Row]); 13] = [
         Frame {
             gap: File::Domain,
             before: [DECLARED_OPEN, ""],
-            behind: ")",
+            after: ")",
             other: NO_GOAL,
         },
         CONSTRAINTS,
@@ -593,7 +593,7 @@ pub(crate) const TABLES: [(Frame, &[Row]); 13] = [
         Frame {
             gap: File::Problem,
             before: ["(define (problem e) (:domain d) (:objects o - b) ", ""],
-            behind: ")",
+            after: ")",
             other: DECLARED,
         },
         GOALS,

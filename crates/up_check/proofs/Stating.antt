@@ -1,4 +1,4 @@
--- Members behind what is stated before them, and where a walk over them stops.
+-- Members after what is stated before them, and where a traversal of them stops.
 use Rattle.std.proofs.Common.{◌≡◌, ℕ, ◌+◌, ◌<◌, ◌≤◌, length, List, [], ◌∷◌, ◌++◌, drop, get_or, Some, refl}
 use Rattle.std.proofs.lemmas.List.{drop_more, drop_all}
 use Rattle.up_text.specs.declared.name.Name.{Name}

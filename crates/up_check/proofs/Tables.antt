@@ -1,4 +1,4 @@
--- The tables of the walk as lists of facts.
+-- The tables of the traversal as lists of facts.
 use Rattle.std.proofs.Common.{◌≡◌, Bool, true, false, List, [], ◌∷◌, map, Some, None, refl}
 use Rattle.std.proofs.lemmas.List.{map-append}
 use Rattle.std.specs.Prelude.{Result, Ok, Err, OnOk}

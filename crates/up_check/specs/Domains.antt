@@ -34,18 +34,21 @@ known_of domain = record { name = domain.name; declarations = declarations domai
 abbrev pub types_alone : List (Name × Name) → Declarations
 types_alone ts = record { types = ts; objects = []; predicates = []; functions = [] }
 
--- types, then constants, then predicates, then functions
+-- constants, then predicates, then functions
+abbrev pub symbols : DomainForm → Declarations → Checked Declarations
+symbols form known =
+    after (with_objects form.constants known) (λ names.
+    after (with_predicates form.predicates names) (λ more. with_functions form.functions more))
+
+-- types, then what else is declared
 abbrev pub declared : DomainForm → Checked Declarations
-declared form =
-    after (types form.types) (λ ts.
-    after (with_objects form.constants (types_alone ts)) (λ names.
-    after (with_predicates form.predicates names) (λ more. with_functions form.functions more)))
+declared form = after (types form.types) (λ ts. symbols form (types_alone ts))
 
 -- the fault of a name that is declared
 abbrev pub second : List Name → Ident → List Fault
 second declared it = unless (not (is_among declared it.name)) (at it.place Duplicate it.name)
 
--- actions behind those of these names
+-- actions after those of these names
 abbrev pub actions : Declarations → List Name → List RawAction → Checked (List Action)
 actions names declared [] = parsed []
 actions names declared (raw ∷ raws) =

@@ -1,4 +1,4 @@
--- The initial state in the tables of the walk.
+-- The initial state in the tables of the traversal.
 use Rattle.std.specs.Prelude.{Bool, ◌&&◌, map}
 use Rattle.std.specs.Cmp.Lexicographic.{pointwise}
 use Rattle.up_text.specs.declared.name.Name.{Name}

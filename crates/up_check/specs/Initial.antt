@@ -101,7 +101,7 @@ term_faults names before place term value None = at term.name.place UnknownName 
 term_faults names before place term value (Some function) =
     bracket_faults names term function.args ++ value_faults names before place term value function.gives
 
--- the faults of a member behind what is stated before it
+-- the faults of a member after what is stated before it
 abbrev pub member_faults : Declarations → Initial → RawInit → List Fault
 member_faults names before (member.Atom atom) = atom_faults names atom (predicate_of names atom.name.name)
 member_faults names before (member.Absent atom) = atom_faults names atom (predicate_of names atom.name.name)
@@ -131,7 +131,7 @@ with_member before (member.Atom atom) = record { atoms = with_atom before.atoms 
 with_member before (member.Absent atom) = before
 with_member before (member.Value place term value) = with_value before term value
 
--- the members of a list behind what is stated before them
+-- the members of a list after what is stated before them
 abbrev pub stated : Declarations → Initial → List RawInit → Checked Initial
 stated names before [] = parsed before
 stated names before (member ∷ others) = behind (member_faults names before member) (stated names (with_member before member) others)

@@ -32,7 +32,7 @@ use Rattle.up_check.specs.Metrics.{metric_of}
 abbrev pub wrong_domain : Name → Ident → List Fault
 wrong_domain name stated = unless (same_name stated.name name) (at stated.place WrongDomain stated.name)
 
--- the constraints, behind these, and then the metric
+-- the constraints, after these, and then the metric
 abbrev pub rules_and_metric : Declarations → List Constraint → ProblemForm → Checked (List Constraint × Option Metric)
 rules_and_metric names rules form =
     over_two (λ all m. (all, m)) (before rules (constraints names [] form.constraints)) (metric_of names form.metric)
@@ -79,6 +79,10 @@ objects_on names acts rules form = after (with_objects form.objects names) (in_n
 abbrev pub problem_names : Known → ProblemForm → Checked Parts
 problem_names known form =
     behind (wrong_domain known.name form.domain) (objects_on known.declarations known.actions known.constraints form)
+
+-- the names of the domain and the problem that a form states
+abbrev pub titles : ProblemForm → Titles
+titles form = record { domain = form.domain.name; problem = form.name.name }
 
 -- the parts of a problem that is put together from these
 abbrev pub composed : Titles → ℕ → Declared → List Action → Stated → Parts

@@ -7,7 +7,7 @@ ghost use Rattle.up_phrase.specs.Named.{at};
 ghost use Rattle.up_phrase.specs.Walks.{unless};
 ghost use Rattle.indexmap.specs.IndexMap.{insert_entry};
 ghost use Rattle.up_check.specs.Held.{same_ground, fact, number_fact, value_fact, held};
-ghost use Rattle.up_check.specs.Initial.{foremost, object_faults, argument_faults, bracket_faults, atom_faults, arguments, number_at, object_at, keeps_number, keeps_object, second_value, value_faults, term_faults, member_faults, with_atom, with_number, with_object, with_value, with_member, initial};
+ghost use Rattle.up_check.specs.Initial.{foremost, object_faults, argument_faults, bracket_faults, atom_faults, arguments, number_at, object_at, keeps_number, keeps_object, second_value, value_faults, term_faults, member_faults, with_atom, with_number, with_object, with_value, with_member, stated, initial};
 
 use indexmap::{IndexMap, IndexSet};
 use pddl_parse::{Ident, RawGround, RawInit, RawValue};
@@ -37,7 +37,6 @@ pub struct Init {
 ///
 /// Errors, in the order of places: `UnknownName` at a predicate, function or object; `Arity` at a bracket; `TypeMismatch` at an
 /// argument or value; `Duplicate` at the bracket of a value whose term has another one before it.
-#[tactic(auto, using(crate::proofs::Stating::stating))]
 pub fn checked_init(alloc: Global, names: &Names, members: &[RawInit]) -> Result<Init, Fault>
     ensures ok { IfOk result (λ init. initial (declarations names.now) members.now ≡ parsed (held init)) }
     ensures err { IfErr result (λ fault. ¬ (fault ≡ Fault.Memory) → first (initial (declarations names.now) members.now) ≡ Some fault) }
@@ -47,10 +46,29 @@ pub fn checked_init(alloc: Global, names: &Names, members: &[RawInit]) -> Result
         numbers: IndexMap::new(alloc),
         values: IndexMap::new(alloc),
     };
-    for member in members {
-        add_member(alloc, names, member, &mut init)?;
+    match add_members(alloc, names, members, &mut init) {
+        Ok(()) => Ok(init),
+        Err(fault) => {
+            drop(init);
+            Err(fault)
+        }
     }
-    Ok(init)
+}
+
+#[tactic(auto, using(crate::proofs::Stating::stating))]
+fn add_members(
+    alloc: Global,
+    names: &Names,
+    members: &[RawInit],
+    init: &mut Init,
+) -> Result<(), Fault>
+    ensures ok { OnOk result (stated (declarations names.now) (held init.old) members.now ≡ parsed (held init.new)) }
+    ensures err { IfErr result (λ fault. ¬ (fault ≡ Fault.Memory) → first (stated (declarations names.now) (held init.old) members.now) ≡ Some fault) }
+{
+    for member in members {
+        add_member(alloc, names, member, init)?;
+    }
+    Ok(())
 }
 
 #[tactic(auto, using(crate::proofs::Stating::stating))]

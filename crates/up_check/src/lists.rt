@@ -1,4 +1,4 @@
-ghost use Rattle.std.specs.Prelude.{◌≡◌, map, Some, IfOk, IfErr};
+ghost use Rattle.std.specs.Prelude.{◌≡◌, map, Ok, Some, IfOk, IfErr};
 ghost use Rattle.pddl_lex.specs.Parses.{parsed, first};
 ghost use Rattle.up_phrase.specs.Declarations.{declarations};
 ghost use Rattle.up_phrase.specs.Scopes.{typed};
@@ -45,11 +45,31 @@ pub fn declared_lists(alloc: Global, names: Names) -> Result<Declared, Memory>
         predicates,
         functions,
     } = names;
+    all_declared(
+        typed_of(alloc, types),
+        typed_of(alloc, objects),
+        predicates_of(alloc, predicates),
+        functions_of(alloc, functions),
+    )
+}
+
+// The lists, where there was memory for all of them.
+fn all_declared(
+    types: Result<List<Typed>, Memory>,
+    objects: Result<List<Typed>, Memory>,
+    predicates: Result<List<Predicate>, Memory>,
+    functions: Result<List<Function>, Memory>,
+) -> Result<Declared, Memory>
+    ensures types { IfOk result (λ made. types ≡ Ok made.types) }
+    ensures objects { IfOk result (λ made. objects ≡ Ok made.objects) }
+    ensures predicates { IfOk result (λ made. predicates ≡ Ok made.predicates) }
+    ensures functions { IfOk result (λ made. functions ≡ Ok made.functions) }
+{
     Ok(Declared {
-        types: typed_of(alloc, types)?,
-        objects: typed_of(alloc, objects)?,
-        predicates: predicates_of(alloc, predicates)?,
-        functions: functions_of(alloc, functions)?,
+        types: types?,
+        objects: objects?,
+        predicates: predicates?,
+        functions: functions?,
     })
 }
 
@@ -103,10 +123,27 @@ fn init_lists(alloc: Global, init: Init) -> Result<Initial, Memory>
         numbers,
         values,
     } = init;
+    all_stated(
+        facts_of(alloc, atoms),
+        number_facts_of(alloc, numbers),
+        value_facts_of(alloc, values),
+    )
+}
+
+// The lists, where there was memory for all of them.
+fn all_stated(
+    atoms: Result<List<Fact>, Memory>,
+    numbers: Result<List<NumberFact>, Memory>,
+    values: Result<List<ValueFact>, Memory>,
+) -> Result<Initial, Memory>
+    ensures atoms { IfOk result (λ made. atoms ≡ Ok made.atoms) }
+    ensures numbers { IfOk result (λ made. numbers ≡ Ok made.numbers) }
+    ensures values { IfOk result (λ made. values ≡ Ok made.values) }
+{
     Ok(Initial {
-        atoms: facts_of(alloc, atoms)?,
-        numbers: number_facts_of(alloc, numbers)?,
-        values: value_facts_of(alloc, values)?,
+        atoms: atoms?,
+        numbers: numbers?,
+        values: values?,
     })
 }
 

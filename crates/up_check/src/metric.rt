@@ -15,8 +15,13 @@ pub fn checked_metric(alloc: Global, names: &Names, raw: &RawMetric) -> Result<M
     ensures err { IfErr result (λ fault. ¬ (fault ≡ Fault.Memory) → first (metric (declarations names.now) raw.now) ≡ Some fault) }
 {
     let scope = Scope::new(alloc);
-    Ok(Metric {
-        minimize: raw.minimize,
-        value: checked_expr(alloc, names, &scope, Setting::Metric, &raw.value)?,
-    })
+    let checked = checked_expr(alloc, names, &scope, Setting::Metric, &raw.value);
+    drop(scope);
+    match checked {
+        Ok(value) => Ok(Metric {
+            minimize: raw.minimize,
+            value,
+        }),
+        Err(fault) => Err(fault),
+    }
 }

@@ -5,7 +5,7 @@ ghost use Rattle.up_phrase.specs.Declarations.{declarations};
 ghost use Rattle.up_declare.specs.Declaring.{with_objects};
 ghost use Rattle.up_check.specs.Domains.{known_of};
 ghost use Rattle.up_check.specs.Metrics.{metric_of};
-ghost use Rattle.up_check.specs.Problems.{composed, in_names, objects_on, parts, problem_names, stated, wrong_domain};
+ghost use Rattle.up_check.specs.Problems.{composed, in_names, objects_on, parts, problem_names, stated, titles, wrong_domain};
 
 use crate::constraint::push_constraints;
 use crate::domain::Domain;
@@ -18,7 +18,7 @@ use up_phrase::{Fault, Names, Reason, Setting, checked_goal, named};
 use up_text::{Box, List, Memory, Name};
 use up_tree::{Action, Constraint, Formula, Metric, Parts, Problem};
 
-/// What a problem text states beside its objects, behind its domain's constraints. Boxes keep what is dropped at a fault small.
+/// What a problem text states beside its objects, after its domain's constraints. Boxes keep what is dropped at a fault small.
 #[derive(Drop)]
 pub struct Stated {
     pub init: Initial,
@@ -42,7 +42,10 @@ pub fn checked_problem(alloc: Global, domain: Domain, form: &ProblemForm) -> Res
 {
     match check_domain(alloc, &domain.name, &form.domain) {
         Ok(()) => in_domain(alloc, domain, form),
-        Err(fault) => Err(fault),
+        Err(fault) => {
+            drop(domain);
+            Err(fault)
+        }
     }
 }
 
@@ -84,7 +87,10 @@ fn with_objects(alloc: Global, names: Names, groups: &[RawGroup]) -> Result<Name
     let mut names = names;
     match declare_objects(alloc, &mut names, groups) {
         Ok(()) => Ok(names),
-        Err(fault) => Err(fault),
+        Err(fault) => {
+            drop(names);
+            Err(fault)
+        }
     }
 }
 
@@ -104,7 +110,10 @@ fn in_names(
 {
     match checked_statements(alloc, &names, constraints, form) {
         Ok(stated) => Ok(with_statements(alloc, constants, actions, form, names, stated)?),
-        Err(fault) => Err(fault),
+        Err(fault) => {
+            drop(names);
+            Err(fault)
+        }
     }
 }
 
@@ -162,15 +171,38 @@ fn with_statements(
 ) -> Result<Problem, Memory>
     ensures { IfOk result (λ made. made ≡ parts constants actions form.now (declarations names) stated) }
 {
-    let declared = declared_lists(alloc, names)?;
-    let titles = titles_of(alloc, form)?;
-    Ok(problem_of(titles, constants, declared, actions, stated))
+    match declared_lists(alloc, names) {
+        Ok(declared) => with_lists(alloc, constants, actions, form, declared, stated),
+        Err(memory) => {
+            drop(stated);
+            Err(memory)
+        }
+    }
+}
+
+fn with_lists(
+    alloc: Global,
+    constants: usize,
+    actions: List<Action>,
+    form: &ProblemForm,
+    declared: Declared,
+    stated: Stated,
+) -> Result<Problem, Memory>
+    ensures { IfOk result (λ made. made ≡ composed (titles form.now) constants declared actions stated) }
+{
+    match titles_of(alloc, form) {
+        Ok(titles) => Ok(problem_of(titles, constants, declared, actions, stated)),
+        Err(memory) => {
+            drop(declared);
+            drop(stated);
+            Err(memory)
+        }
+    }
 }
 
 // The domain is the one that the form names.
 fn titles_of(alloc: Global, form: &ProblemForm) -> Result<Titles, Memory>
-    ensures domain { IfOk result (λ titles. titles.domain ≡ form.now.domain.name) }
-    ensures problem { IfOk result (λ titles. titles.problem ≡ form.now.name.name) }
+    ensures { IfOk result (λ made. made ≡ titles form.now) }
 {
     Ok(Titles {
         domain: form.domain.name.copy(alloc)?,

@@ -40,7 +40,11 @@ fn domain_of(alloc: Global, text: &[u8]) -> Result<Domain, ReadError>
     ensures refused { IfErr result (λ refusal. ¬ (refusal ≡ ReadError.Memory) → StopsInDomain text.now refusal) }
 {
     match domain_form_of(alloc, text) {
-        Ok(form) => named_domain(alloc, &form),
+        Ok(form) => {
+            let made = named_domain(alloc, &form);
+            drop(form);
+            made
+        }
         Err(refusal) => Err(refusal),
     }
 }
@@ -53,8 +57,15 @@ fn problem_of(alloc: Global, domain: Domain, text: &[u8]) -> Result<Problem, Rea
     ensures refused { IfErr result (λ refusal. ¬ (refusal ≡ ReadError.Memory) → StopsInProblem (known_of domain) text.now refusal) }
 {
     match problem_form_of(alloc, text) {
-        Ok(form) => named_problem(alloc, domain, &form),
-        Err(refusal) => Err(refusal),
+        Ok(form) => {
+            let made = named_problem(alloc, domain, &form);
+            drop(form);
+            made
+        }
+        Err(refusal) => {
+            drop(domain);
+            Err(refusal)
+        }
     }
 }
 

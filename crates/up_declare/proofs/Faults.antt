@@ -44,7 +44,7 @@ pub groups_off : (types seen : Types) (groups : List RawGroup) (index : ℕ) (g 
 groups_off types seen groups index g fault within is e =
     rw (drop_more groups index g within, ← is) (head_append (name_faults types seen (type_named g.of) g.names) _ fault e)
 
--- a fault that `?` hands on, of a walk over types that are rightly marked
+-- a fault that `?` hands on, of a traversal of types that are rightly marked
 pub handed_if : {T : Type 0} (result : Result T Fault) (fault : Fault) (Right : Type 0) (stop : Option Fault) → IsErrAnd result (λ other. other ≡ fault)
     → (Right → ¬ (fault ≡ Memory) → stop ≡ Some fault) → IfErr result (λ other. Right → ¬ (other ≡ Memory) → stop ≡ Some other)
 handed_if (Ok value) fault Right stop is stops = tt

@@ -1,4 +1,4 @@
--- Walks up a chain of parents.
+-- Traversals up a chain of parents.
 use Rattle.std.proofs.Common.{◌≡◌, ℕ, zero, suc, ◌+◌, ◌-◌, ◌<◌, ◌≤◌, ◌⊎◌, inl, inr, ◌≢◌, not, Bool, true, false, List, [], ◌∷◌, length, set, get_or, slice_get, replicate, is_some, Option, Some, None, refl, ap, sym, subst, ◌∙◌, true≢false, arith}
 use Rattle.std.proofs.lemmas.List.{get_or-set_other}
 use Rattle.std.proofs.lemmas.Bool.{cases_eq}
@@ -10,7 +10,7 @@ use Rattle.up_declare.proofs.Chains.{leaves_none, leaves_some, leaves_later, eno
 plus_one : (n : ℕ) → suc n ≡ n + 1
 plus_one n = omega arith
 
--- the walk has come `gone` steps up from a name
+-- the traversal has come `gone` steps up from a name
 abbrev pub Climbed : Types → ℕ → Name → Name → Type 0
 Climbed types gone name here = (m : ℕ) → leaves types (m + gone) name ≡ leaves types m here
 
@@ -23,7 +23,7 @@ climbed_more types gone name here parent climbed is m =
     let same : m + suc gone ≡ suc m + gone = omega arith in
     ap (λ k. leaves types k name) same ∙ climbed (suc m) ∙ leaves_some types m here parent is
 
--- the chain from where the walk is leaves the list
+-- the chain from where the traversal is leaves the list
 pub climbed_out : (types : Types) (gone m : ℕ) (name here : Name) → Climbed types gone name here → leaves types m here ≡ true → reaches types name ≡ true
 climbed_out types gone m name here climbed out =
     ap (λ k. leaves types k name) (sym (plus_one (length types))) ∙ enough types (m + gone) name (climbed m ∙ out)
@@ -81,7 +81,7 @@ climbed_left types left name here parent within some climbed is m =
     let same : length types - (left - 1) ≡ suc (length types - left) = omega (within, some, arith) in
     ap (λ k. leaves types (m + k) name) same ∙ climbed_more types (length types - left) name here parent climbed is m
 
--- the walk has come to a marked type
+-- the traversal has come to a marked type
 pub climbed_marked : (types : Types) (marks : List Bool) (gone at : ℕ) (name here key parent : Name) → Marked types marks
     → slice_get types at ≡ Some (key, parent) → parent_in types here ≡ Some parent → get_or marks at false ≡ true → Climbed types gone name here
     → reaches types name ≡ true
@@ -91,7 +91,7 @@ climbed_marked types marks gone at name here key parent marked there is on climb
 pub climbed_unlisted : (types : Types) (gone : ℕ) (name here : Name) → parent_in types here ≡ None → Climbed types gone name here → reaches types name ≡ true
 climbed_unlisted types gone name here none climbed = climbed_out types gone 1 name here climbed (leaves_none types 0 here none)
 
--- the type that the walk has come to is marked too
+-- the type that the traversal has come to is marked too
 pub marked_here : (types : Types) (marks more : List Bool) (at : ℕ) (here key parent : Name) → Marked types marks → reaches types here ≡ true
     → slice_get types at ≡ Some (key, parent) → parent_in types here ≡ Some parent → more ≡ set marks at true → Marked types more
 marked_here types marks more at here key parent marked reaching there is set_on =

@@ -20,7 +20,7 @@ use Rattle.up_phrase.specs.Named.{at}
 use Rattle.up_phrase.specs.Scopes.{type_named, type_fault}
 use Rattle.up_phrase.specs.Walks.{Checked, after, unless, in_turn}
 
--- what was declared, and behind it an object, a predicate, or a function
+-- what was declared, and after it an object, a predicate, or a function
 abbrev pub and_object : Declarations → Name → Name → Declarations
 and_object names it of =
     record { types = names.types; objects = names.objects ++ (it, of) ∷ []; predicates = names.predicates; functions = names.functions }

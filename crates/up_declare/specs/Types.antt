@@ -49,7 +49,7 @@ leaves types (suc n) name = option_map_or (λ parent. leaves types n parent) (pa
 abbrev pub reaches : Types → Name → Bool
 reaches types name = leaves types (length types + 1) name
 
--- what is wrong where a name stands with this parent behind the places of these types
+-- what is wrong where a name stands with this parent after the places of these types
 abbrev pub reason_at : Types → Types → Name → Name → Option Reason
 reason_at types seen parent name =
     if is_object name then (if is_object parent then None else Some Duplicate)

@@ -22,10 +22,30 @@ pub fn declared_types(alloc: Global, groups: &[RawGroup]) -> Result<IndexMap<Nam
     ensures err { IfErr result (λ fault. ¬ (fault ≡ Fault.Memory) → first (types groups.now) ≡ Some fault) }
 {
     let mut types = IndexMap::new(alloc);
-    list_groups(alloc, &mut types, groups)?;
-    check_groups(alloc, &types, groups)?;
-    list_parents(alloc, &mut types, groups)?;
-    Ok(types)
+    match list_types(alloc, &mut types, groups) {
+        Ok(()) => Ok(types),
+        Err(fault) => {
+            drop(types);
+            Err(fault)
+        }
+    }
+}
+
+// Adds the types of a typed list, and after them those that it names only as parents.
+fn list_types(
+    alloc: Global,
+    types: &mut IndexMap<Name, Name>,
+    groups: &[RawGroup],
+) -> Result<(), Fault>
+    ensures checked { IfOk result (λ _. type_faults (with_groups groups.now types.old.entries) [] groups.now ≡ []) }
+    ensures ok { OnOk result (types.new.entries ≡ with_parents groups.now (with_groups groups.now types.old.entries)) }
+    ensures err { IfErr result (λ fault. ¬ (fault ≡ Fault.Memory) →
+        slice_get (type_faults (with_groups groups.now types.old.entries) [] groups.now) 0 ≡ Some fault) }
+{
+    list_groups(alloc, types, groups)?;
+    check_groups(alloc, types, groups)?;
+    list_parents(alloc, types, groups)?;
+    Ok(())
 }
 
 // The parent that is stated, or `object`.
@@ -169,7 +189,7 @@ fn mark(types: &IndexMap<Name, Name>, marks: &mut Vec<bool>, name: &Name)
     }
 }
 
-// Whether a type reaches `object`; the types of its chain are then marked, so that each chain is walked once.
+// Whether a type reaches `object`; the types of its chain are then marked, so that each chain is traversed once.
 fn reach(types: &IndexMap<Name, Name>, marks: &mut Vec<bool>, name: &Name) -> bool
     ensures reaches { Marked types.now.entries marks.old.items → result ≡ reaches types.now.entries name.now }
     ensures marked { Marked types.now.entries marks.old.items → Marked types.now.entries marks.new.items }
@@ -187,7 +207,7 @@ fn reason_unless(holds: bool, reason: Reason) -> Option<Reason>
     if holds { None } else { Some(reason) }
 }
 
-// What is wrong where a name stands with this parent, behind the places of the types that are seen.
+// What is wrong where a name stands with this parent, after the places of the types that are seen.
 fn reason_at(
     types: &IndexMap<Name, Name>,
     seen: &IndexMap<Name, Name>,
@@ -255,18 +275,27 @@ fn check_groups(
     ensures ok { IfOk result (λ _. type_faults types.now.entries [] groups.now ≡ []) }
     ensures err { IfErr result (λ fault. ¬ (fault ≡ Fault.Memory) → slice_get (type_faults types.now.entries [] groups.now) 0 ≡ Some fault) }
 {
-    let mut seen = IndexMap::new(alloc);
     let mut marks = none_marked(alloc, types.len())?;
+    let mut seen = IndexMap::new(alloc);
+    let checked = check_each_group(alloc, types, &mut seen, &mut marks, groups);
+    drop(seen);
+    checked
+}
+
+fn check_each_group(
+    alloc: Global,
+    types: &IndexMap<Name, Name>,
+    seen: &mut IndexMap<Name, Name>,
+    marks: &mut Vec<bool>,
+    groups: &[RawGroup],
+) -> Result<(), Fault>
+    ensures ok { IfOk result (λ _. Marked types.now.entries marks.old.items → type_faults types.now.entries seen.old.entries groups.now ≡ []) }
+    ensures err { IfErr result (λ fault. Marked types.now.entries marks.old.items → ¬ (fault ≡ Fault.Memory) →
+        slice_get (type_faults types.now.entries seen.old.entries groups.now) 0 ≡ Some fault) }
+{
     for group in groups {
         let parent = parent_named(alloc, &group.of)?;
-        check_names(
-            alloc,
-            types,
-            &mut seen,
-            &mut marks,
-            group.names.as_slice(),
-            &parent,
-        )?;
+        check_names(alloc, types, seen, marks, group.names.as_slice(), &parent)?;
     }
     Ok(())
 }

@@ -1,4 +1,4 @@
--- Rows gathered behind those that are there.
+-- Rows gathered after those that are there.
 use Rattle.std.proofs.Common.{◌≡◌, ℕ, ◌+◌, ◌<◌, ◌≤◌, length, List, ◌++◌, map, drop, get_or, Some, refl, ap, sym, ◌∙◌, append_assoc}
 use Rattle.std.proofs.lemmas.List.{drop_more, drop_all, append-nil}
 use Rattle.pddl_lex.specs.Parses.{parsed, rejected, first, over_two, before}

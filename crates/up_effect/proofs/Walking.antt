@@ -1,4 +1,4 @@
--- What stands around an effect, as the walk goes in and out.
+-- What stands around an effect, as the traversal goes in and out.
 use Rattle.std.proofs.Common.{◌≡◌, ◌+◌, List, [], ◌∷◌, ◌++◌, length, take, Option, Some, None, refl, ap, sym, ◌∙◌, arith}
 use Rattle.std.proofs.lemmas.List.{length-append}
 use Rattle.std.proofs.Math.Seq.{take-append_seam}
@@ -40,7 +40,7 @@ pub when_on : (names : Declarations) (a : Around) (condition : RawFormula) (body
     → formula names a.variables Plain condition ≡ parsed f → rows_when names a condition body ≡ rows names (under a f) body
 when_on names a condition body f e = rw e refl
 
--- a simple effect whose row has been put behind those before it
+-- a simple effect whose row has been put after those before it
 pub simple_on : (a : Around) (v : Checked Effect) (e : Effect) (old new : List Row) → v ≡ parsed e → new ≡ old ++ row a e ∷ []
     → before old (simple a v) ≡ parsed new
 simple_on a v e old new is grown = rw (is, grown) refl

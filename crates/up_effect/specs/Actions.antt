@@ -26,7 +26,7 @@ with_parameters names raw barred vars =
 abbrev pub action : Declarations → RawAction → Checked Action
 action names raw = after (entered_groups names [] raw.params []) (with_parameters names raw [])
 
--- what is left to read of it behind the precondition, and with the parameters as variables of the tree
+-- what is left to read of it after the precondition, and with the parameters as variables of the tree
 abbrev pub with_effect : Declarations → RawAction → List Name → Variables → Formula → List Typed → Checked Action
 with_effect names raw barred vars pre params = over (action_of raw.name.name params pre) (rows names (within vars barred) raw.effect)
 

@@ -17,8 +17,13 @@ fn parameters(alloc: Global, names: &Names, groups: &[RawGroup]) -> Result<Scope
     ensures barred { IfOk result (λ scope. barred scope ≡ []) }
 {
     let mut scope = Scope::new(alloc);
-    scope.enter(alloc, names, Binder::Plain, groups)?;
-    Ok(scope)
+    match scope.enter(alloc, names, Binder::Plain, groups) {
+        Ok(()) => Ok(scope),
+        Err(fault) => {
+            drop(scope);
+            Err(fault)
+        }
+    }
 }
 
 /// An action, whose own name isn't looked at: parameters, then precondition, then effect.
@@ -49,7 +54,10 @@ fn with_parameters(
 {
     match boxed_formula(alloc, names, &mut scope, Setting::Plain, &raw.pre) {
         Ok(pre) => with_precondition(alloc, names, scope, pre, raw),
-        Err(fault) => Err(fault),
+        Err(fault) => {
+            drop(scope);
+            Err(fault)
+        }
     }
 }
 
@@ -66,7 +74,10 @@ fn with_precondition(
 {
     match scope.since(alloc, 0) {
         Ok(params) => with_effect(alloc, names, scope, pre, params, raw),
-        Err(Memory) => Err(Fault::Memory),
+        Err(Memory) => {
+            drop(scope);
+            Err(Fault::Memory)
+        }
     }
 }
 

@@ -1,4 +1,4 @@
--- Where a walk goes on and where it stops.
+-- Where a traversal goes on and where it stops.
 use Rattle.std.proofs.Common.{◌≡◌, ℕ, ◌+◌, ◌<◌, ◌≤◌, ◌==◌, length, List, [], ◌∷◌, ◌++◌, map, drop, get_or, Option, Some, refl, ap, sym, ◌∙◌, append_assoc}
 use Rattle.std.proofs.lemmas.List.{drop_more, drop_all, append-nil, length-map}
 use Rattle.std.specs.Prelude.{Result, Ok, Err, IfErr, IsErrAnd}

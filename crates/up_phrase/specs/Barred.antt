@@ -27,6 +27,6 @@ unfoldable mutual
   all_bind end_of-Formula = []
   all_bind (more_of-Formula f fs) = binds f ++ all_bind fs
 
--- names behind those that were there before, each once
+-- names after those that were there before, each once
 abbrev pub each_once : List Name → List Name → List Name
 each_once before names = insert_all same_name before names

@@ -1,9 +1,9 @@
--- How a walk goes on from what it has found.
+-- How a traversal goes on from what it has found.
 use Rattle.std.specs.Prelude.{Bool, true, false, List, [], ◌∷◌}
 use Rattle.pddl_lex.specs.Parses.{Parse, parsed, rejected}
 use Rattle.up_phrase.specs.declared.fault.Fault.{Fault}
 
--- a part whose names are known, or its faults in the order of the walk
+-- a part whose names are known, or its faults in the order of the traversal
 abbrev pub Checked : Type 0 → Type 0
 Checked A = Parse Fault A
 

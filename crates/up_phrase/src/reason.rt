@@ -6,7 +6,7 @@ ghost use Rattle.up_phrase.specs.Reasons.{reason_word};
 pub enum Reason {
     /// A byte that begins no token.
     BadByte,
-    /// A number with too many digits, or with a byte of a name or a point directly behind it.
+    /// A number with too many digits, or with a byte of a name or a point directly after it.
     BadNumber,
     /// The innermost bracket that is open at the end.
     Unclosed,

@@ -7,18 +7,18 @@ use Rattle.up_check.proofs.read.problem_of.Goals as goal
 
 pub returns-in-Ok-clause-reads : goal.returns-in-Ok-clause-reads
 returns-in-Ok-clause-reads c =
-    reads_problem (known_of c.args.domain) c.args.text.now c.in-Ok.form c.named_problem.result c.in-Ok.ensures.form c.named_problem.ensures.ok
+    reads_problem (known_of c.args.domain) c.args.text.now c.in-Ok.form c.named_problem-made.result c.in-Ok.ensures.form c.named_problem-made.ensures.ok
 
 pub returns-in-Ok-clause-depth : goal.returns-in-Ok-clause-depth
-returns-in-Ok-clause-depth c = is_shallow problem c.args.text.now c.in-Ok.form c.named_problem.result c.in-Ok.ensures.form
+returns-in-Ok-clause-depth c = is_shallow problem c.args.text.now c.in-Ok.form c.named_problem-made.result c.in-Ok.ensures.form
 
 pub returns-in-Ok-clause-form : goal.returns-in-Ok-clause-form
-returns-in-Ok-clause-form c = is_form problem c.args.text.now c.in-Ok.form c.named_problem.result c.in-Ok.ensures.form
+returns-in-Ok-clause-form c = is_form problem c.args.text.now c.in-Ok.form c.named_problem-made.result c.in-Ok.ensures.form
 
 pub returns-in-Ok-clause-refused : goal.returns-in-Ok-clause-refused
 returns-in-Ok-clause-refused c =
-    stops_named problem (problem_names (known_of c.args.domain)) file.Problem c.args.text.now c.in-Ok.form c.named_problem.result c.in-Ok.ensures.form
-    c.named_problem.ensures.refused
+    stops_named problem (problem_names (known_of c.args.domain)) file.Problem c.args.text.now c.in-Ok.form c.named_problem-made.result c.in-Ok.ensures.form
+    c.named_problem-made.ensures.refused
 
 pub returns-in-Err-clause-refused : goal.returns-in-Err-clause-refused
 returns-in-Err-clause-refused c =

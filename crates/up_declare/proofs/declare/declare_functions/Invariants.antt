@@ -4,7 +4,7 @@ use Rattle.up_phrase.specs.Walks.{in_turn}
 use Rattle.up_declare.specs.Declaring.{with_function_group}
 use Rattle.up_declare.proofs.declare.declare_functions.Given as goal
 
--- the list is declared from the group that the walk has come to
+-- the list is declared from the group that the traversal has come to
 abbrev pub invariant-loop-group : goal.invariant-loop-group
 invariant-loop-group l =
     in_turn with_function_group l.groups (declarations l.fn.names) ≡ in_turn with_function_group (drop l.group-index l.groups) (declarations l.names)

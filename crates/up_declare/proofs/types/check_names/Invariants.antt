@@ -3,7 +3,7 @@ use Rattle.up_declare.specs.Types.{with_names, name_faults}
 use Rattle.up_declare.specs.Marks.{Marked}
 use Rattle.up_declare.proofs.types.check_names.Given as goal
 
--- the faults of the group are those from the name that the walk has come to
+-- the faults of the group are those from the name that the traversal has come to
 abbrev pub invariant-loop-ident : goal.invariant-loop-ident
 invariant-loop-ident l = record {
   so_far :

@@ -3,7 +3,7 @@ use Rattle.up_declare.specs.Types.{reaches}
 use Rattle.up_declare.specs.Marks.{Marked}
 use Rattle.up_declare.proofs.types.mark.Given as goal
 
--- the types so far are marked, and the one that the walk has come to reaches `object` too
+-- the types so far are marked, and the one that the traversal has come to reaches `object` too
 abbrev pub invariant-up : goal.invariant-up
 invariant-up l = record {
   marked : Marked l.types.entries l.fn.marks.items → reaches l.types.entries l.name ≡ true → Marked l.types.entries l.marks.items;

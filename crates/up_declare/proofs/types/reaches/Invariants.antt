@@ -2,7 +2,7 @@ use Rattle.std.proofs.Common.{◌≡◌, ◌≤◌, ◌-◌, length}
 use Rattle.up_declare.proofs.Marking.{Climbed}
 use Rattle.up_declare.proofs.types.reaches.Given as goal
 
--- the walk is some steps up
+-- the traversal is some steps up
 abbrev pub invariant-up : goal.invariant-up
 invariant-up l = record {
   within : l.left ≤ length l.types.entries;

@@ -17,15 +17,15 @@ for_all-returns-clause-kept t c = same_around _ _
     (c.leave.ensures.barred ∙ ap (λ (a : Around). a.barred) c.in_ok-effect.ensures.kept ∙ c.in_ok-enter.ensures.barred)
     (ap (λ (a : Around). a.whens) c.in_ok-effect.ensures.kept)
 
-pub under-returns-clause-kept : goal.under-returns-clause-kept
-under-returns-clause-kept t c = same_around _ _
-    (ap (λ (a : Around). a.parameters) c.in_ok-with_condition.ensures.kept)
-    (c.unbar.ensures.variables ∙ ap (λ (a : Around). a.variables) c.in_ok-with_condition.ensures.kept ∙ c.in_ok-bar.ensures.variables)
-    (c.unbar.ensures.barred ∙ ap (λ (a : Around). take c.barred_len-outer.result a.barred) c.in_ok-with_condition.ensures.kept
-    ∙ ap (take c.barred_len-outer.result) c.in_ok-bar.ensures.barred
+pub under-returns-in_ok-with_condition-in-Ok-clause-kept : goal.under-returns-in_ok-with_condition-in-Ok-clause-kept
+under-returns-in_ok-with_condition-in-Ok-clause-kept t c = same_around _ _
+    (ap (λ (a : Around). a.parameters) c.in_ok-with_condition-in-Ok.ensures.kept)
+    (c.unbar.ensures.variables ∙ ap (λ (a : Around). a.variables) c.in_ok-with_condition-in-Ok.ensures.kept ∙ c.in-Ok.ensures.variables)
+    (c.unbar.ensures.barred ∙ ap (λ (a : Around). take c.barred_len-outer.result a.barred) c.in_ok-with_condition-in-Ok.ensures.kept
+    ∙ ap (take c.barred_len-outer.result) c.in-Ok.ensures.barred
     ∙ ap (λ n. take n (each_once (barred c.args.self.now.scope) (binds c.args.condition))) c.barred_len-outer.ensures
     ∙ unbarred (barred c.args.self.now.scope) (binds c.args.condition))
-    (ap (λ (a : Around). a.whens) c.in_ok-with_condition.ensures.kept)
+    (ap (λ (a : Around). a.whens) c.in_ok-with_condition-in-Ok.ensures.kept)
 
 pub with_condition-returns-clause-kept : goal.with_condition-returns-clause-kept
 with_condition-returns-clause-kept t c = same_around _ _

@@ -3,7 +3,7 @@ use Rattle.up_phrase.specs.Declarations.{declarations}
 use Rattle.up_phrase.specs.Scopes.{variables, barred, barred_to, entered_groups}
 use Rattle.up_phrase.proofs.scope.Scope.enter.Given as goal
 
--- the list is entered from the group that the walk has come to
+-- the list is entered from the group that the traversal has come to
 abbrev pub invariant-loop-group : goal.invariant-loop-group
 invariant-loop-group l = record {
   so_far :

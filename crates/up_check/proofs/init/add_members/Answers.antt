@@ -4,7 +4,7 @@ use Rattle.up_phrase.specs.Declarations.{declarations}
 use Rattle.up_check.specs.Held.{held}
 use Rattle.up_phrase.proofs.Steps.{handed_on}
 use Rattle.up_check.proofs.Stating.{stated_off}
-use Rattle.up_check.proofs.init.checked_init.Goals as goal
+use Rattle.up_check.proofs.init.add_members.Goals as goal
 
 pub returns-in_err-add_member-clause-err : goal.returns-in_err-add_member-clause-err
 returns-in_err-add_member-clause-err c =
