@@ -162,7 +162,7 @@ module _ (used : List Name) (oracle : Oracle) (p : Parts) (well : IsWellFormed p
 
   -- ---- entries
 
-  differ : Differ (map (λ (a : Action). a.name) acts)
+  pub differ : Differ (map (λ (a : Action). a.name) acts)
   differ = kept_formed.action_names.differ
 
   entries_rows : AreOf acts entries
