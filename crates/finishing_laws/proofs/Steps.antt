@@ -12,7 +12,8 @@ use Rattle.up_tree.specs.Objects.{World, world, unassigned}
 use Rattle.up_tree.specs.State.{State, Holds, ground, init}
 use Rattle.up_tree.specs.Truth.{True}
 use Rattle.up_tree.specs.Changes.{changed}
-use Rattle.up_tree.specs.Simplify.{Oracle, is_false_formula, simplified, simple_action}
+use Rattle.up_tree.specs.Simplify.{Oracle, knows_nothing, is_false_formula, simplified, simple_action}
+use Rattle.up_tree.specs.Plans.{metric_at}
 use Rattle.up_tree.specs.WellFormed.{IsAction, IsWellFormed}
 use Rattle.up_tree.proofs.Apart.{apart}
 use Rattle.up_tree.proofs.Judging.{judged}
@@ -32,10 +33,10 @@ use Rattle.step_laws.proofs.Splitting.{find_member, split_law}
 use Rattle.compiling_laws.specs.Forms.{symbols}
 use Rattle.compiling_laws.proofs.Lists.{member_left, false_true}
 use Rattle.compiling_laws.proofs.Names.{fresh_is_new, new_names_of}
-use Rattle.finishing_laws.specs.Finished.{Goal, finished_by, AreUsed}
-use Rattle.finishing_laws.specs.Steps.{StaysRelated}
+use Rattle.finishing_laws.specs.Finished.{Goal, themselves, finished_by, finished, AreUsed}
+use Rattle.finishing_laws.specs.Steps.{StaysRelated, SameState}
 use Rattle.finishing_laws.proofs.Finishing.{differ}
-use Rattle.finishing_laws.proofs.Left.{left, simple, news, left_new, IsLeft, of_left}
+use Rattle.finishing_laws.proofs.Left.{left, simple, news, left_new, news_themselves, IsLeft, of_left}
 use Rattle.finishing_laws.proofs.Unreached.{predicates_of, changed_among, holds_among}
 
 new_member : (pairs : List Stands) (pair : Stands) → Member pair pairs → Member pair.new (new_actions pairs)
@@ -183,3 +184,36 @@ pub finished_step : (p r : Parts) (pairs : List Stands) (R : State → State →
     AreUsed r used → StepLaw p (finished_by used oracle r pairs).parts (finished_by used oracle r pairs).entries (StaysRelated r R)
 finished_step p r pairs R law used oracle well initial are =
     split_law (StaysRelated r R) p (finished_by used oracle r pairs).parts (left (world r) oracle pairs) (finished_split p r pairs R law used oracle well initial are)
+
+-- ---- each action for itself
+
+own_pair : (actions : List Action) (pair : Stands) → Member pair (themselves actions) → (pair.old ≡ pair.new) × Member pair.old actions
+own_pair [] pair m = absurd m
+own_pair (a ∷ actions) pair (inl e) = (ap (λ (s : Stands). s.old) e ∙ sym (ap (λ (s : Stands). s.new) e), inl (ap (λ (s : Stands). s.old) e))
+own_pair (a ∷ actions) pair (inr m) = let k = own_pair actions pair m in (k.0, inr k.1)
+
+in_themselves : (actions : List Action) (a : Action) → Member a actions → Member (let s : Stands = record { new = a; old = a } in s) (themselves actions)
+in_themselves [] a m = absurd m
+in_themselves (b ∷ actions) a (inl e) = inl (λ i. let s : Stands = record { new = e i; old = e i } in s)
+in_themselves (b ∷ actions) a (inr m) = inr (in_themselves actions a m)
+
+own_split : (p : Parts) → IsWellFormed p → SplitLaw p p (themselves p.actions) SameState
+own_split p well =
+    let own : new_actions (themselves p.actions) ≡ p.actions = news_themselves (world p) knows_nothing p.actions in
+    record {
+      actions = sym own;
+      names = subst Differ (ap (map (λ (a : Action). a.name)) (sym own) ∙ new_names_of (themselves p.actions)) well.action_names.differ;
+      olds = well.action_names.differ;
+      stand = λ pair m. let k = own_pair p.actions pair m in (k.1, ap (λ (a : Action). length a.params) (sym k.0));
+      initial = refl;
+      followed = λ s t is old m args can. (record { new = old; old = old }, in_themselves p.actions old m, refl, subst (λ x. CanTakeBy (world p) x old args) is can);
+      kept = λ s t is pair m args can.
+          subst (λ a. CanTakeBy (world p) s a args) (sym (own_pair p.actions pair m).0) (subst (λ x. CanTakeBy (world p) x pair.new args) (sym is) can);
+      next = λ s t is pair m args can. λ i. next_by (world p) (is i) ((own_pair p.actions pair m).0 i) args;
+      goal = λ s t is. (λ h. subst (λ x. IsGoal p x) is h, λ h. subst (λ x. IsGoal p x) (sym is) h);
+      metric = λ s t is. ap (metric_at p) is;
+    }
+
+pub own_step : (p : Parts) → IsWellFormed p → (used : List Name) (oracle : Oracle) → IsInitial p oracle → AreUsed p used →
+    StepLaw p (finished used oracle p).parts (finished used oracle p).entries (StaysRelated p SameState)
+own_step p well used oracle initial are = finished_step p p (themselves p.actions) SameState (own_split p well) used oracle well initial are
