@@ -28,7 +28,7 @@ use Rattle.compiling_laws.specs.Forms.{symbols}
 use Rattle.finishing_laws.proofs.Unreached.{predicates_of, changed_among, holds_among}
 use Rattle.disjunctions_laws.specs.Disjunctions.{with_delete, fake_action, fake_actions, clause_pairs, goal_clauses, goal_fact, action_names as used_names, fakes, with_fakes}
 use Rattle.disjunctions_laws.specs.FakeLaw.{Ends, FakeLaw}
-use Rattle.disjunctions_laws.specs.Laws.{IsOther, GoalFact}
+use Rattle.disjunctions_laws.specs.Related.{IsOther, GoalFact}
 use Rattle.disjunctions_laws.proofs.Clauses.{some_clause, of_clause, clause_formed}
 use Rattle.disjunctions_laws.proofs.Declared.{expr_names, formula_names, action_names}
 use Rattle.disjunctions_laws.proofs.LastRow.{with_last, without_last, agree_last, fact_gone, fake_agrees, fake_adds, fake_can}

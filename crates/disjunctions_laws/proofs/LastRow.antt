@@ -28,7 +28,7 @@ use Rattle.semantics_laws.proofs.Lists.{each_as, each_filter_map}
 use Rattle.semantics_laws.proofs.Tables.{tied}
 use Rattle.step_laws.specs.SplitLaw.{CanTakeBy, next_by}
 use Rattle.disjunctions_laws.specs.Disjunctions.{plain_row, with_delete, fake_action}
-use Rattle.disjunctions_laws.specs.Laws.{IsOther}
+use Rattle.disjunctions_laws.specs.Related.{IsOther}
 
 -- ---- lists
 

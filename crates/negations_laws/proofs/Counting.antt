@@ -35,7 +35,6 @@ use Rattle.compiling_laws.specs.Forms.{symbols}
 use Rattle.finishing_laws.specs.Finished.{Goal}
 use Rattle.negations_laws.specs.Twins.{denies, tells_different, main_conditions, stands_in, symbol_names, twin_names, twins_of, twins_in, differ_in, words, is_initial, fact, twin_atoms, different_pairs, differ_atoms, new_atoms}
 use Rattle.negations_laws.specs.Negations.{simple_normal, simple_form, negations, negated, some_negated, is_atom_of, stands_negated, negations_count}
-use Rattle.negations_laws.specs.Laws.{CountBoundsAtoms}
 use Rattle.negations_laws.proofs.Values.{formula_names}
 use Rattle.negations_laws.proofs.Truth.{left, right}
 use Rattle.negations_laws.proofs.Words.{fresh_new, some_length}
@@ -482,6 +481,3 @@ module _ (p : Parts) (well : IsWellFormed p) where
     twins_few,
     differ_few,
   )
-
-pub count_bounds_atoms : CountBoundsAtoms
-count_bounds_atoms p well = atoms_few p well

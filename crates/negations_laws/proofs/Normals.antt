@@ -52,7 +52,6 @@ use Rattle.compiling_laws.proofs.Otherwise.{rows_meet}
 use Rattle.finishing_laws.proofs.Rewritten.{rewritten_compiles}
 use Rattle.negations_laws.specs.Kinds.{normal_kind}
 use Rattle.negations_laws.specs.Negations.{normal_action, normal_form}
-use Rattle.negations_laws.specs.Laws.{NormalCompiles}
 use Rattle.negations_laws.proofs.Truth.{left, right}
 use Rattle.negations_laws.proofs.Admitted.{no_constraints}
 
@@ -304,8 +303,9 @@ module _ (p : Parts) where
   within_kind PartialFluents h =
       stays _ _ _ (ap (λ b. list_any (λ d. gives_an_object d && flip (is_total p d)) p.functions || b) (sym (same_rows (λ a. list_any (λ r. is_undefine r.effect) a.rows) (λ a. refl) p.actions)) ∙ h)
 
-pub normal_compiles : NormalCompiles
-normal_compiles p well is =
+pub normal_is_compiled : (p : Parts) → IsWellFormed p → IsTrue (admits Negations (carries p))
+    → IsCompiled (normal_kind (carries p)) p (normal_form p) (map entry_of (rewritten normal_action p.actions))
+normal_is_compiled p well is =
     rewritten_compiles (normal_kind (carries p)) p (normal_form p) normal_action (record {
       names = λ a. refl;
       params = λ a. refl;

@@ -52,11 +52,10 @@ use Rattle.finishing_laws.specs.Finished.{Goal}
 use Rattle.negations_laws.specs.Twins.{Words, words, positive_action, twin_pairs, twinned}
 use Rattle.negations_laws.specs.Related.{IsOld, AreTwinned}
 use Rattle.negations_laws.specs.Negations.{normal_action, simple_normal, simple_form, negations, negation_pairs, goal_predicates, AreRelated}
-use Rattle.negations_laws.specs.Laws.{IsReady, NegationsSplit, NegationsStep}
 use Rattle.negations_laws.proofs.Values.{found_old}
 use Rattle.negations_laws.proofs.Words.{fresh_new}
 use Rattle.negations_laws.proofs.Stepping.{IsAccepted, followed_by, kept_by, next_twinned}
-use Rattle.negations_laws.proofs.Admitted.{accepted}
+use Rattle.negations_laws.proofs.Admitted.{IsReady, accepted}
 use Rattle.negations_laws.proofs.Normals.{outcomes_same}
 use Rattle.negations_laws.proofs.Twinned.{twins_split}
 use Rattle.negations_laws.proofs.Whole.{ready, actions_are, always_rows, simple_is, compiled}
@@ -294,9 +293,3 @@ module _ (p : Parts) (well : IsWellFormed p) (admitted : IsTrue (admits Negation
 
   pub steps : StepLaw p q (negations p).entries (AreRelated p)
   steps = subst (λ m. StepLaw p q m (AreRelated p)) (entries_are p.actions) (split_law (AreRelated p) p q (negation_pairs p) split)
-
-pub negations_split : NegationsSplit
-negations_split p well admitted = split p well admitted
-
-pub negations_step : NegationsStep
-negations_step p well admitted = steps p well admitted

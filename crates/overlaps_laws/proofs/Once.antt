@@ -32,7 +32,7 @@ use Rattle.condition_laws.proofs.Shaping.{simplified_is_formed}
 use Rattle.overlaps_laws.specs.Overlaps.{Case}
 use Rattle.overlaps_laws.proofs.Parting.{IsWith, here, later, with_member}
 use Rattle.overlaps_laws.proofs.Deleting.{same_numbers, same_objects, same_changed}
-use Rattle.overlaps_laws.specs.Laws.{IsSplittable}
+use Rattle.overlaps_laws.specs.Splittable.{IsSplittable}
 use Rattle.overlaps_laws.proofs.Rows.{Met, met_apart}
 use Rattle.overlaps_laws.proofs.Values.{some_is, some_not_none, OneValue}
 
