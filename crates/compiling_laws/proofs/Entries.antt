@@ -11,8 +11,8 @@ use Rattle.step_laws.specs.Naming.{Stands, entry_of}
 use Rattle.step_laws.proofs.Splitting.{find_member}
 use Rattle.step_laws.proofs.Unchanged.{length-arguments}
 use Rattle.semantics_laws.proofs.Lists.{each_as}
-use Rattle.compiling_laws.specs.Laws.{PairsFit}
 use Rattle.compiling_laws.proofs.Names.{every_append}
+use Rattle.compiling_laws.specs.Entries.{EntriesFit, StandsIn}
 
 pub rows_from : (pairs : List Stands) → AreOf (map (λ (pair : Stands). pair.new) pairs) (map entry_of pairs)
 rows_from [] = tt
@@ -46,7 +46,7 @@ pub fit_from : (pairs : List Stands) → Differ (map (λ (pair : Stands). pair.n
     → IsBack (map entry_of pairs)
 fit_from pairs differ enough = record { differ = subst Differ (sym (names_from pairs)) differ; within = fits_from pairs enough }
 
-pub pairs_fit : PairsFit
+pub pairs_fit : (p : Parts) (pairs : List Stands) → Differ (map (λ a. a.name) p.actions) → Differ (map (λ pair. pair.new.name) pairs) → Every (StandsIn p) pairs → EntriesFit p pairs
 pairs_fit p pairs olds news each = record {
   rows = rows_from pairs;
   fit = fit_from pairs news (each_as _ _ (λ pair k. k.1) pairs each);

@@ -24,7 +24,7 @@ use Rattle.up_tree.specs.Objects.{predicate_named, function_named}
 use Rattle.up_tree.specs.WellFormed.{IsBelow, AreVariables, gives_object, term_type, IsTerm, RowFits, TermFits, TermsFit, IsAtom, IsNumberTerm, IsExpr, IsFormula, AreFormulas, IsObjectTarget, IsEffect, IsRow, IsAction, IsFact, ObjectsFit, IsNumberFact, IsValueFact, IsPlain, formulas_of, IsConstraint, OnMetric, OfGives}
 use Rattle.semantics_laws.proofs.Lists.{each_as}
 use Rattle.compiling_laws.specs.Forms.{DeclaresMore, with_declared}
-use Rattle.compiling_laws.specs.Laws.{FormulasAreOfMore, ActionsAreOfMore}
+
 
 -- the same of a value, where there is one
 there : {A : Type 0} (P Q : A → Type 0) → ((x : A) → P x → Q x) → (v : Option A) → IsSomeAnd v P → IsSomeAnd v Q
@@ -192,8 +192,9 @@ of_form p q more is = λ i. record {
   constraints = q.constraints;
 }
 
-pub formulas_are_of_more : FormulasAreOfMore
+pub formulas_are_of_more : (p : Parts) (more : List Predicate) (q : Parts) → DeclaresMore p more q → (objects scope : List Typed) (f : Formula) →
+    IsFormula p objects scope f → IsFormula q objects scope f
 formulas_are_of_more p more q is objects scope f h = subst (λ q. IsFormula q objects scope f) (of_form p q more is) (formula_stays p q more objects scope f h)
 
-pub actions_are_of_more : ActionsAreOfMore
+pub actions_are_of_more : (p : Parts) (more : List Predicate) (q : Parts) → DeclaresMore p more q → (a : Action) → IsAction p a → IsAction q a
 actions_are_of_more p more q is a h = subst (λ q. IsAction q a) (of_form p q more is) (action_stays p q more a h)

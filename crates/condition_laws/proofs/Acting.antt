@@ -19,13 +19,15 @@ use Rattle.up_tree.specs.Faults.{Fault, unknown, arity, argument_type, precondit
 use Rattle.up_tree.specs.Simplify.{Oracle, is_false_formula, simplified, simple_row, simple_action}
 use Rattle.up_tree.proofs.Apart.{apart}
 use Rattle.up_tree.proofs.Judging.{judged}
-use Rattle.semantics_laws.specs.Laws.{SameTruth}
+use Rattle.semantics_laws.specs.SameTruth.{SameTruth}
 use Rattle.semantics_laws.proofs.Same.{same_truth}
 use Rattle.condition_laws.specs.Assigned.{IsRowAssigned, IsActionAssigned}
 use Rattle.condition_laws.specs.Oracles.{IsTrueTo}
-use Rattle.condition_laws.specs.Laws.{IsTakenAs, SimpleActionKeeps, NoActionFails, CanBeTaken, SimpleActionsAreTaken, DroppedAreNotTaken}
+use Rattle.condition_laws.specs.Taken.{IsTakenAs, CanBeTaken, IsTakenWith}
 use Rattle.condition_laws.proofs.Simplifying.{simplified_truth, of_never}
 use Rattle.condition_laws.proofs.Assigning.{actions_are_assigned}
+use Rattle.up_tree.specs.declared.problem.Parts.{Parts}
+use Rattle.up_tree.specs.WellFormed.{IsAction}
 
 same : {A : Type 0} → A ↔ A
 same = (λ a. a, λ a. a)
@@ -213,11 +215,13 @@ of_none w oracle a = by (is_false_formula (simplified w oracle a.pre))
     by true h = refl
     by false h = cc
 
-pub simple_action_keeps : SimpleActionKeeps
+pub simple_action_keeps : (w : World) (s : State) (oracle : Oracle) (a b : Action) (args : List Name) → IsTrueTo s oracle → IsActionAssigned w a args →
+    simple_action w oracle a ≡ Some b → IsTakenAs w s args b a
 simple_action_keeps w s oracle a b args true_to is h =
     subst (λ b. IsTakenAs w s args b a) (of_simple w oracle a b h) (taken_as w s oracle a args true_to is)
 
-pub no_action_fails : NoActionFails
+pub no_action_fails : (w : World) (s : State) (oracle : Oracle) (a : Action) (args : List Name) → IsTrueTo s oracle → IsActionAssigned w a args →
+    simple_action w oracle a ≡ None → ActionApplies w s a args precondition
 no_action_fails w s oracle a args true_to is h right =
     let e : Assignment = action_assignment a args in
     let wrong : False w s e a.pre =
@@ -229,7 +233,8 @@ no_action_fails w s oracle a args true_to is h right =
 not_apart : (m n : ℕ) → (¬ m ≢ n) → m ≡ n
 not_apart m n h = elim (eqb_tells m n) [ inl same ↦ same.1 | inr other ↦ absurd (h other.1) ]
 
-pub simple_actions_are_taken : SimpleActionsAreTaken
+pub simple_actions_are_taken : (p : Parts) (a b : Action) → IsAction p a → (w : World) (s : State) (oracle : Oracle) (args : List Name) → IsTrueTo s oracle →
+    simple_action w oracle a ≡ Some b → IsTakenWith w s args b a
 simple_actions_are_taken p a b is w s oracle args true_to h =
     let fits : CanBeTaken w s args b → length args ≡ length a.params =
     λ can. subst (λ b. CanBeTaken w s args b → length args ≡ length a.params) (of_simple w oracle a b h) (λ can. not_apart (length args) (length a.params) (can arity)) can in
@@ -243,6 +248,7 @@ simple_actions_are_taken p a b is w s oracle args true_to h =
       fires = λ can. (taken (fits can)).fires;
     }
 
-pub dropped_are_not_taken : DroppedAreNotTaken
+pub dropped_are_not_taken : (p : Parts) (a : Action) → IsAction p a → (w : World) (s : State) (oracle : Oracle) (args : List Name) → IsTrueTo s oracle →
+    simple_action w oracle a ≡ None → ¬ CanBeTaken w s args a
 dropped_are_not_taken p a is w s oracle args true_to h can =
     can precondition (no_action_fails w s oracle a args true_to (actions_are_assigned p a is w args (not_apart (length args) (length a.params) (can arity))) h)

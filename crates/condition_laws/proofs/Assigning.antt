@@ -10,10 +10,11 @@ use Rattle.up_tree.specs.declared.formula.Formula.{Formula, And', Or', Atom, Equ
 use Rattle.up_tree.specs.declared.problem.Parts.{Parts}
 use Rattle.up_tree.specs.Nodes.{not, imply, exists, forall}
 use Rattle.up_tree.specs.Objects.{World, Assignment, named, bind, assign, unassigned, objects_of, tuples}
-use Rattle.up_tree.specs.WellFormed.{IsTerm, IsFormula, AreFormulas, IsRow}
+use Rattle.up_tree.specs.WellFormed.{IsTerm, IsFormula, AreFormulas, IsRow, IsAction}
 use Rattle.semantics_laws.proofs.Lists.{each_as, each_map, each_flat_map, each_member}
-use Rattle.condition_laws.specs.Assigned.{IsOfScope, HasObject, IsAssigned, AreAssigned}
-use Rattle.condition_laws.specs.Laws.{FormulasAreAssigned, ActionsAreAssigned}
+use Rattle.condition_laws.specs.Assigned.{IsOfScope, HasObject, IsAssigned, AreAssigned, IsActionAssigned}
+use Rattle.up_tree.specs.declared.action.Action.{Action}
+
 
 pub at_member : {X : Type 0} (P : X → Type 0) (xs : List X) → Every P xs → (x : X) → Member x xs → P x
 at_member P [] h x m = absurd m
@@ -95,14 +96,15 @@ mutual
   are_assigned p objects scope end_of-Formula h w e k = tt
   are_assigned p objects scope (more_of-Formula f fs) h w e k = (is_assigned p objects scope f h.0 w e k, are_assigned p objects scope fs h.1 w e k)
 
-pub formulas_are_assigned : FormulasAreAssigned
+pub formulas_are_assigned : (p : Parts) (objects scope : List Typed) (f : Formula) → IsFormula p objects scope f →
+    (w : World) (e : Assignment) → IsOfScope scope e → IsAssigned w e f
 formulas_are_assigned = is_assigned
 
 no_more : (vars : List Typed) → vars ++ [] ≡ vars
 no_more [] = refl
 no_more (v ∷ vars) = ap (λ vs. v ∷ vs) (no_more vars)
 
-pub actions_are_assigned : ActionsAreAssigned
+pub actions_are_assigned : (p : Parts) (a : Action) → IsAction p a → (w : World) (args : List Name) → length args ≡ length a.params → IsActionAssigned w a args
 actions_are_assigned p a is w args fit =
     let params : IsOfScope a.params (assign a.params args unassigned) =
     subst (λ vars. IsOfScope vars (assign a.params args unassigned)) (no_more a.params) (of_scope a.params [] args unassigned fit (λ v h. absurd (true≢false (sym h))))

@@ -12,9 +12,9 @@ use Rattle.up_tree.specs.declared.action.Row.{Row}
 use Rattle.up_tree.specs.declared.action.Action.{Action}
 use Rattle.up_tree.specs.Nodes.{not, imply, exists, forall}
 use Rattle.up_tree.specs.Objects.{World}
-use Rattle.up_tree.specs.Simplify.{Oracle, true_formula, false_formula, constant, conjuncts, disjuncts, is_empty, is_true_formula, is_false_formula, alone_or, simple_and, simple_or, objects_in, simple_atom, simple_equal, without_not, simple_not, simple_imply, are_inhabited, simple_exists, simple_forall, simplified, all_conjuncts, all_disjuncts, simple_row}
+use Rattle.up_tree.specs.Simplify.{Oracle, true_formula, false_formula, constant, conjuncts, disjuncts, is_empty, is_true_formula, is_false_formula, alone_or, simple_and, simple_or, objects_in, simple_atom, simple_equal, without_not, simple_not, simple_imply, are_inhabited, simple_exists, simple_forall, simplified, all_conjuncts, all_disjuncts, simple_row, simple_action}
 use Rattle.up_kind.specs.Carried.{anywhere, in_row, is_not, is_disjunctive, is_equal, is_exists, is_forall, is_compare}
-use Rattle.condition_laws.specs.Carrying.{SimplifiedCarry, IsSimpleRow, ActionHas, ActionCarries, SimpleActionsCarry}
+use Rattle.condition_laws.specs.Carrying.{IsSimpleRow, ActionHas, ActionCarries, SimplifiedCarries}
 use Rattle.condition_laws.proofs.Holding.{left, right, of_two, second, former, latter, none, any_of_both, anywhere-And, anywhere-Or, in_conjuncts, in_disjuncts, is_true_formula-true_formula, is_false_formula-false_formula}
 use Rattle.condition_laws.proofs.Acting.{simple, of_simple, of_simple_pre}
 
@@ -364,7 +364,7 @@ module _ (w : World) (oracle : Oracle) where
         (λ e. right (anywhere is_disjunctive f) (in_row is_disjunctive fs) (or_in_conjuncts fs (latter _ _ apart, e)))
         (of_two _ _ (sym (any_of_both (anywhere is_disjunctive) (conjuncts (simplified w oracle f)) (all_conjuncts w oracle fs)) ∙ h.1))
 
-pub simplified_carry : SimplifiedCarry
+pub simplified_carry : (w : World) (oracle : Oracle) (f : Formula) → SimplifiedCarries w oracle f
 simplified_carry w oracle f = record {
   negations = in_simplified is_not nots_mild w oracle f;
   equalities = in_simplified is_equal equals_mild w oracle f;
@@ -462,6 +462,6 @@ module _ (w : World) (oracle : Oracle) where
     conditional = in_conditional a.rows;
   }
 
-pub simple_actions_carry : SimpleActionsCarry
+pub simple_actions_carry : (w : World) (oracle : Oracle) (a b : Action) → simple_action w oracle a ≡ Some b → ActionCarries w oracle b a
 simple_actions_carry w oracle a b h =
     subst (λ b. ActionCarries w oracle b a) (of_simple w oracle a b h) (action_carries w oracle a (of_simple_pre w oracle a b h))

@@ -12,11 +12,10 @@ use Rattle.up_tree.specs.Truth.{True, False}
 use Rattle.up_tree.specs.Judged.{both, either, all_of, any_of, truth_of, truths_of}
 use Rattle.up_tree.specs.Normal.{clauses, joined, gathered}
 use Rattle.up_tree.proofs.Nodes.{True-And, True-Or, False-And, False-Or}
-use Rattle.semantics_laws.specs.Laws.{SameTruth}
+use Rattle.semantics_laws.specs.SameTruth.{SameTruth}
 use Rattle.semantics_laws.proofs.Lists.{each_as, each_map, each_flat_map}
 use Rattle.semantics_laws.proofs.Same.{same_truth}
 use Rattle.condition_laws.specs.Shapes.{IsLiteral, IsNormal, AreNormal, IsQuantifierFree, AreQuantifierFree}
-use Rattle.condition_laws.specs.Laws.{ClausesTrue, ClausesFalse, ClausesAreOfLiterals}
 use Rattle.condition_laws.proofs.Values.{both_true, both_false, either_false, all_append, any_append}
 use Rattle.condition_laws.proofs.Simplifying.{truth_of-And, truth_of-Or}
 
@@ -132,10 +131,10 @@ module _ (w : World) (s : State) (e : Assignment) where
 by_path : {A B C : Type 0} → A ≡ B → A ↔ C → C ↔ B
 by_path e f = (λ c. subst (λ X. X) e (f.1 c), λ b. f.0 (subst (λ X. X) (sym e) b))
 
-pub clauses_true : ClausesTrue
+pub clauses_true : (w : World) (s : State) (e : Assignment) (f : Formula) → True w s e f ↔ Somewhere (λ clause. Every (True w s e) clause) (clauses f)
 clauses_true w s e f = by_path (True-Or w s e (map And (clauses f)) ∙ true_ands w s e (clauses f)) (same_as_clauses w s e f).true_where
 
-pub clauses_false : ClausesFalse
+pub clauses_false : (w : World) (s : State) (e : Assignment) (f : Formula) → False w s e f ↔ Every (λ clause. Somewhere (False w s e) clause) (clauses f)
 clauses_false w s e f = by_path (False-Or w s e (map And (clauses f)) ∙ false_ands w s e (clauses f)) (same_as_clauses w s e f).false_where
 
 -- ---- what stands in them
@@ -176,5 +175,5 @@ mutual
   gathered_literals end_of-Formula h k = tt
   gathered_literals (more_of-Formula f fs) h k = each_clause_of_both IsLiteral (clauses f) (gathered fs) (literals f h.0 k.0) (gathered_literals fs h.1 k.1)
 
-pub clauses_are_of_literals : ClausesAreOfLiterals
+pub clauses_are_of_literals : (f : Formula) → IsNormal f → IsQuantifierFree f → Every (Every IsLiteral) (clauses f)
 clauses_are_of_literals f h k = literals f h k

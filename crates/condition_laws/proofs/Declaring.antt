@@ -20,9 +20,9 @@ use Rattle.up_tree.specs.declared.problem.ValueFact.{ValueFact}
 use Rattle.up_tree.specs.Nodes.{not, imply, exists, forall, sum, difference, product, quotient}
 use Rattle.up_tree.specs.Objects.{World, world, predicate_named, function_named}
 use Rattle.up_tree.specs.Simplify.{Oracle, simplified, simple_action}
-use Rattle.up_tree.specs.WellFormed.{IsBelow, AreVariables, gives_object, term_type, IsTerm, RowFits, TermFits, TermsFit, IsAtom, IsNumberTerm, IsExpr, IsFormula, AreFormulas, IsObjectTarget, IsEffect, IsRow, IsAction, IsNumberFact, IsValueFact, IsPlain, formulas_of, IsConstraint, OnMetric}
+use Rattle.up_tree.specs.WellFormed.{IsBelow, AreVariables, gives_object, term_type, IsTerm, RowFits, TermFits, TermsFit, IsAtom, IsNumberTerm, IsExpr, IsFormula, AreFormulas, IsObjectTarget, IsEffect, IsRow, IsAction, IsNumberFact, IsValueFact, IsPlain, formulas_of, IsConstraint, OnMetric, IsWellFormed}
 use Rattle.semantics_laws.proofs.Lists.{each_as}
-use Rattle.condition_laws.specs.Problems.{DeclaresTheSame, declared_by, FormulasAreOfDeclared, ActionsAreOfDeclared, simple_problem, SimpleProblemsAreFormed}
+use Rattle.condition_laws.specs.Problems.{DeclaresTheSame, declared_by, simple_problem}
 use Rattle.condition_laws.proofs.Shaping.{simple_action_is_formed, simplified_is_formed}
 use Rattle.condition_laws.proofs.Carrying.{simple_actions_carry}
 
@@ -164,10 +164,10 @@ of_form p q is = λ i. record {
   constraints = q.constraints;
 }
 
-pub formulas_are_of_declared : FormulasAreOfDeclared
+pub formulas_are_of_declared : (p q : Parts) → DeclaresTheSame p q → (objects scope : List Typed) (f : Formula) → IsFormula p objects scope f → IsFormula q objects scope f
 formulas_are_of_declared p q is objects scope f h = subst (λ q. IsFormula q objects scope f) (of_form p q is) (formula_stays p q objects scope f h)
 
-pub actions_are_of_declared : ActionsAreOfDeclared
+pub actions_are_of_declared : (p q : Parts) → DeclaresTheSame p q → (a : Action) → IsAction p a → IsAction q a
 actions_are_of_declared p q is a h = subst (λ q. IsAction q a) (of_form p q is) (action_stays p q a h)
 
 -- ---- a simplified problem
@@ -218,7 +218,7 @@ module _ (w : World) (oracle : Oracle) where
       by None at more = more
       by (Some b) at more = (subst IsName (sym (simple_actions_carry w oracle a b at).name) h.0, more)
 
-pub simple_problems_are_formed : SimpleProblemsAreFormed
+pub simple_problems_are_formed : (oracle : Oracle) (p : Parts) → IsWellFormed p → IsWellFormed (simple_problem oracle p)
 unfolding names
 simple_problems_are_formed oracle p h = record {
   domain = h.domain;

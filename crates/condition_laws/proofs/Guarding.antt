@@ -1,6 +1,6 @@
 -- Rewriting keeps guards.
 use Rattle.std.proofs.Common.{◌≡◌, ◌⊎◌, Bool, true, false, ◌||◌, ◌&&◌, not as flip, true≢false, List, [], ◌∷◌, ◌++◌, map, zip, refl, ap, sym, ◌∙◌, subst, inl, inr, ⊎_elim}
-use Rattle.std.specs.Prelude.{if◌then◌else◌}
+use Rattle.std.specs.Prelude.{if◌then◌else◌, IsTrue, Some}
 use Rattle.std.specs.List.{list_any, list_all, flat_map}
 use Rattle.std.specs.Cmp.Lexicographic.{bytes_decides}
 use Rattle.up_text.specs.declared.name.Name.{Name}
@@ -18,10 +18,10 @@ use Rattle.up_tree.specs.declared.problem.Parts.{Parts}
 use Rattle.up_tree.specs.Nodes.{not, imply, exists, forall}
 use Rattle.up_tree.specs.Objects.{World}
 use Rattle.up_tree.specs.Normal.{nnf, nnf_not, nnf_all, nnf_not_all, clauses, joined, gathered}
-use Rattle.up_tree.specs.Simplify.{Oracle, true_formula, false_formula, constant, conjuncts, is_false_formula, alone_or, simple_and, simple_equal, simple_not, simplified, all_conjuncts}
-use Rattle.up_kind.specs.Meeting.{share, top_conjuncts, all_top_conjuncts, same_plain, says_equal, tells_apart, is_guarded, meet}
+use Rattle.up_tree.specs.Simplify.{Oracle, true_formula, false_formula, constant, conjuncts, is_false_formula, alone_or, simple_and, simple_equal, simple_not, simplified, all_conjuncts, simple_action}
+use Rattle.up_kind.specs.Meeting.{share, top_conjuncts, all_top_conjuncts, same_plain, says_equal, tells_apart, is_guarded, meet, has_meeting_rows}
 use Rattle.semantics_laws.proofs.Lists.{each_as}
-use Rattle.condition_laws.specs.Guards.{are_apart, KeepsGuards, NormalKeepsGuards, ClausesKeepGuards, SimplifiedKeepsGuards, IsRowOf, GuardedDontMeet, SimpleActionsDontMeet}
+use Rattle.condition_laws.specs.Guards.{are_apart, KeepsGuards, IsRowOf}
 use Rattle.condition_laws.specs.Carrying.{IsSimpleRow, ActionCarries}
 use Rattle.condition_laws.proofs.Holding.{left, right, of_two, former, latter, none, any_of_both, in_one}
 use Rattle.condition_laws.proofs.Clauses.{each_of_both}
@@ -242,11 +242,11 @@ module _ (s t : Term) where
           (λ e. ⊎_elim (λ a. inl a) (λ b. inr (behind (conjuncts (simplified w oracle f)) (all_conjuncts w oracle fs) b)) (conjuncts_guards fs (latter _ _ possible) e))
           (of_two (guards f) (list_any tells (all_top_conjuncts fs)) (sym (any_of_both tells (top_conjuncts f) (all_top_conjuncts fs)) ∙ h))
 
-pub normal_keeps_guards : NormalKeepsGuards
+pub normal_keeps_guards : (f : Formula) → KeepsGuards f (nnf f)
 unfolding is_guarded
 normal_keeps_guards f s t h = inr (nnf_guards s t f h)
 
-pub clauses_keep_guards : ClausesKeepGuards
+pub clauses_keep_guards : (f : Formula) → Every (λ clause. KeepsGuards f (And clause)) (clauses f)
 unfolding is_guarded
 clauses_keep_guards f = all_kept (clauses f) (λ s t h. clauses_guarded s t f h)
   where
@@ -254,7 +254,7 @@ clauses_keep_guards f = all_kept (clauses f) (λ s t h. clauses_guarded s t f h)
     all_kept [] h = tt
     all_kept (c ∷ cs) h = (λ s t k. inr (guards-And s t c ∙ (h s t k).0), all_kept cs (λ s t k. (h s t k).1))
 
-pub simplified_keeps_guards : SimplifiedKeepsGuards
+pub simplified_keeps_guards : (w : World) (oracle : Oracle) (f : Formula) → is_false_formula (simplified w oracle f) ≡ false → KeepsGuards f (simplified w oracle f)
 unfolding is_guarded
 simplified_keeps_guards w oracle f m s t h = simplified_guards s t w oracle f m h
 
@@ -327,7 +327,8 @@ module _ {X Y : Type 0} (R : X → Y → Type 0) (t : X → Bool) (u : Y → Boo
   any_of [] ys h k = absurd (true≢false (sym k))
   any_of (x ∷ xs) ys h k = ⊎_elim (λ e. one_of x ys h.0 e) (λ e. any_of xs ys h.1 e) (of_two (t x) (list_any t xs) k)
 
-pub guarded_dont_meet : GuardedDontMeet
+pub guarded_dont_meet : (p : Parts) (b a : Action) → b.params ≡ a.params → KeepsGuards a.pre b.pre → Every (λ q. Somewhere (λ r. IsRowOf q r) a.rows) b.rows →
+    IsTrue (has_meeting_rows p b) → IsTrue (has_meeting_rows p a)
 guarded_dont_meet p b a params keeps rows h =
     any_of IsRowOf (λ d. list_any (meet p b d) b.rows) (λ d. list_any (meet p a d) a.rows)
     (λ q r is k. any_of IsRowOf (meet p b q) (meet p a r) (λ q2 r2 is2 m. pair q r is q2 r2 is2 m) b.rows a.rows rows k)
@@ -339,7 +340,8 @@ guarded_dont_meet p b a params keeps rows h =
         ∙ still_meet p a.pre b.pre keeps (r.vars ++ a.params) (r2.vars ++ a.params) r.effect r2.effect
         ((λ i. meeting p b.pre (sym is.vars i ++ sym params i) (sym is2.vars i ++ sym params i) (sym is.effect i) (sym is2.effect i)) ∙ sym (meet-is p b q q2) ∙ m)
 
-pub simple_actions_dont_meet : SimpleActionsDontMeet
+pub simple_actions_dont_meet : (p : Parts) (w : World) (oracle : Oracle) (a b : Action) → simple_action w oracle a ≡ Some b →
+    IsTrue (has_meeting_rows p b) → IsTrue (has_meeting_rows p a)
 simple_actions_dont_meet p w oracle a b h =
     let carries : ActionCarries w oracle b a = simple_actions_carry w oracle a b h in
     guarded_dont_meet p b a carries.params

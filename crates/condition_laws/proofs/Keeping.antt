@@ -14,9 +14,9 @@ use Rattle.up_tree.specs.Normal.{denied, nnf, nnf_not, nnf_all, nnf_not_all, cla
 use Rattle.up_kind.specs.Carried.{anywhere, in_row, is_not, is_disjunctive, is_equal, is_exists, is_forall, is_compare}
 use Rattle.semantics_laws.proofs.Lists.{each_as}
 use Rattle.condition_laws.specs.Shapes.{IsLiteral}
-use Rattle.condition_laws.specs.Carrying.{NormalsCarry, ClausesCarry, LiteralsAreNotDisjunctive}
 use Rattle.condition_laws.proofs.Holding.{left, right, of_two, second, none, in_one, anywhere-And, anywhere-Or}
 use Rattle.condition_laws.proofs.Clauses.{each_of_pairs, each_clause_of_both}
+use Rattle.condition_laws.specs.Carrying.{NormalCarries, NoMore}
 
 -- members of a node that the test doesn't see
 module _ (test : Formula → Bool) where
@@ -300,7 +300,7 @@ forall_dual = record {
   comparisons = λ r a b. refl;
 }
 
-pub normals_carry : NormalsCarry
+pub normals_carry : (f : Formula) → NormalCarries f
 normals_carry f = record {
   disjunctive = or_in_nnf f;
   equalities = leaf_in is_equal equals_leaf f;
@@ -347,7 +347,7 @@ module _ (test : Formula → Bool) where
         (only_wider (anywhere test f) (anywhere test f || in_row test fs) (left (anywhere test f) (in_row test fs)) (clauses f) (clauses_only f))
         (only_wider (in_row test fs) (anywhere test f || in_row test fs) (right (anywhere test f) (in_row test fs)) (gathered fs) (gathered_only fs))
 
-pub clauses_carry : ClausesCarry
+pub clauses_carry : (test : Formula → Bool) (f : Formula) → Every (λ clause. Every (λ literal. NoMore test literal f) clause) (clauses f)
 clauses_carry test f = clauses_only test f
 
 literal_no_or : (f : Formula) → IsLiteral f → anywhere is_disjunctive f ≡ false
@@ -374,5 +374,5 @@ literals_no_or : (clause : List Formula) → Every IsLiteral clause → list_any
 literals_no_or [] h = refl
 literals_no_or (f ∷ fs) h = λ i. literal_no_or f h.0 i || literals_no_or fs h.1 i
 
-pub literals_are_not_disjunctive : LiteralsAreNotDisjunctive
+pub literals_are_not_disjunctive : (clause : List Formula) → Every IsLiteral clause → anywhere is_disjunctive (And clause) ≡ false
 literals_are_not_disjunctive clause h = anywhere-And is_disjunctive clause ∙ literals_no_or clause h

@@ -25,11 +25,11 @@ use Rattle.up_kind.specs.declared.feature.Feature.{Feature}
 use Rattle.up_kind.specs.declared.feature.Feature.TheVariants.{FlatTyping, HierarchicalTyping, ActionParameters, NegativeConditions, DisjunctiveConditions, Equalities, ExistentialConditions, UniversalConditions, ConditionalEffects, ForallEffects, ObjectFluents, NumericFluents, NumericConditions, NumericEffects, ScaleEffects, Metric, TrajectoryConstraints, EffectOverlap, ObjectTermsUnderForall, PartialFluents}
 use Rattle.up_kind.specs.Carried.{anywhere, some_condition, some_row, is_not, is_disjunctive, is_equal, is_exists, is_forall, is_compare, is_scale, is_numeric, is_undefine, touches_objects, gives_an_object, is_total, carries}
 use Rattle.up_kind.specs.Meeting.{share, is_guarded, meet, has_meeting_rows}
-use Rattle.semantics_laws.specs.Laws.{SameTruth}
+use Rattle.semantics_laws.specs.SameTruth.{SameTruth}
 use Rattle.condition_laws.specs.Oracles.{IsInitial, IsUnchanged}
 use Rattle.condition_laws.specs.Carrying.{IsSimpleRow, ActionCarries, SimplifiedCarries}
 use Rattle.condition_laws.specs.Steps.{HasSimpleActions}
-use Rattle.condition_laws.specs.Problems.{simple_problem, SimpleProblemsKeepPlans, SimpleProblemsKeepMetrics, SimpleProblemsCarry}
+use Rattle.condition_laws.specs.Problems.{simple_problem}
 use Rattle.condition_laws.proofs.Holding.{left, right, of_two, any_of_both}
 use Rattle.condition_laws.proofs.Simplifying.{simplified_keeps, initial_tells}
 use Rattle.condition_laws.proofs.Assigning.{is_assigned}
@@ -37,6 +37,8 @@ use Rattle.condition_laws.proofs.Running.{runs_leave_unchanged}
 use Rattle.condition_laws.proofs.Carrying.{simplified_carry, simple_actions_carry}
 use Rattle.condition_laws.proofs.Guarding.{agreeing, meeting, meet-is, any_of, simple_actions_dont_meet}
 use Rattle.condition_laws.proofs.Stepping.{simple_actions_run}
+use Rattle.up_frac.specs.Fraction.{Fraction}
+use Rattle.std.specs.Prelude.{IsTrue}
 
 same : {A : Type 0} → A ↔ A
 same = (λ a. a, λ a. a)
@@ -101,11 +103,12 @@ module _ (oracle : Oracle) (p : Parts) (well : IsWellFormed p) (initial : IsInit
   unfolding q
   same_metric plan v = (λ h. (h.0, (same_run plan.steps h.0).0 h.1, h.2), λ h. (h.0, (same_run plan.steps h.0).1 h.1, h.2))
 
-pub simple_problems_keep_plans : SimpleProblemsKeepPlans
+pub simple_problems_keep_plans : (oracle : Oracle) (p : Parts) → IsWellFormed p → IsInitial p oracle → (plan : Plan) → Plans (simple_problem oracle p) plan ↔ Plans p plan
 unfolding q
 simple_problems_keep_plans oracle p well initial plan = same_plans oracle p well initial plan
 
-pub simple_problems_keep_metrics : SimpleProblemsKeepMetrics
+pub simple_problems_keep_metrics : (oracle : Oracle) (p : Parts) → IsWellFormed p → IsInitial p oracle → (plan : Plan) (v : Option (Option Fraction)) →
+    MetricOf (simple_problem oracle p) plan v ↔ MetricOf p plan v
 unfolding q
 simple_problems_keep_metrics oracle p well initial plan v = same_metric oracle p well initial plan v
 
@@ -242,5 +245,6 @@ module _ (oracle : Oracle) (p : Parts) where
         (λ e. right (list_any (λ d. gives_an_object d && flip (is_total p d)) p.functions) _ (of_rows (λ vars e. is_undefine e) e))
         (of_two (list_any (λ d. gives_an_object d && flip (is_total other d)) p.functions) _ h)
 
-pub simple_problems_carry : SimpleProblemsCarry
+pub simple_problems_carry : (oracle : Oracle) (p : Parts) → is_false_formula (simplified (world p) oracle p.goal) ≡ false →
+    (f : Feature) → IsTrue (carries (simple_problem oracle p) f) → IsTrue (carries p f)
 simple_problems_carry oracle p possible f h = features oracle p possible f h

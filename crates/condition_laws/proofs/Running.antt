@@ -12,7 +12,7 @@ use Rattle.up_tree.specs.Plans.{RunsFrom}
 use Rattle.semantics_laws.specs.Symbols.{Symbol, StepChanges, target, AgreeOn}
 use Rattle.semantics_laws.proofs.Framing.{rest_stays}
 use Rattle.condition_laws.specs.Oracles.{IsChanged, IsUnchanged}
-use Rattle.condition_laws.specs.Laws.{RunsLeaveUnchanged}
+
 
 -- an action that is found is one of the list
 of_found : (P : Action → Type 0) (actions : List Action) (name : Name) → IsSomeAnd (find (λ a. same_name a.name name) actions) P → Somewhere P actions
@@ -56,5 +56,5 @@ from p s is [] states run = subst (Every (IsUnchanged p)) (sym run) (is, tt)
 from p s is (step ∷ steps) states run =
     subst (Every (IsUnchanged p)) (sym run.1.3) (is, from p run.1.0 (unchanged_next p s step run.1.0 is run.1.2) steps run.1.1 run.1.4)
 
-pub runs_leave_unchanged : RunsLeaveUnchanged
+pub runs_leave_unchanged : (p : Parts) (steps : List Step) (states : List State) → RunsFrom p (init p) steps states → Every (IsUnchanged p) states
 runs_leave_unchanged p steps states run = from p (init p) (itself (λ x. ¬ IsChanged p x) (init p)) steps states run

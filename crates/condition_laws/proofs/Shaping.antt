@@ -1,6 +1,6 @@
 -- What is well-formed stays so.
 use Rattle.std.proofs.Common.{Bool, true, false, not as flip, List, [], ◌∷◌, ◌++◌, Option, Some, None, option_and_then, sym, subst}
-use Rattle.std.specs.Prelude.{if◌then◌else◌, IfSome}
+use Rattle.std.specs.Prelude.{if◌then◌else◌, IfSome, ◌≡◌}
 use Rattle.std.specs.List.{list_any}
 use Rattle.up_text.specs.declared.name.Name.{Name}
 use Rattle.up_text.specs.Names.{same_name}
@@ -18,10 +18,9 @@ use Rattle.up_tree.specs.declared.problem.Parts.{Parts}
 use Rattle.up_tree.specs.Nodes.{not, imply, exists, forall}
 use Rattle.up_tree.specs.Objects.{World}
 use Rattle.up_tree.specs.Normal.{denied, nnf, nnf_not, nnf_all, nnf_not_all, clauses, joined, gathered}
-use Rattle.up_tree.specs.Simplify.{Oracle, true_formula, false_formula, constant, conjuncts, disjuncts, is_true_formula, is_false_formula, alone_or, simple_and, simple_or, objects_in, simple_atom, simple_equal, without_not, simple_not, simple_imply, are_inhabited, simple_exists, simple_forall, simplified, all_conjuncts, all_disjuncts, simple_row}
+use Rattle.up_tree.specs.Simplify.{Oracle, true_formula, false_formula, constant, conjuncts, disjuncts, is_true_formula, is_false_formula, alone_or, simple_and, simple_or, objects_in, simple_atom, simple_equal, without_not, simple_not, simple_imply, are_inhabited, simple_exists, simple_forall, simplified, all_conjuncts, all_disjuncts, simple_row, simple_action}
 use Rattle.up_tree.specs.WellFormed.{AreVariables, IsExpr, IsAtom, IsTerm, IsFormula, AreFormulas, IsRow, IsAction}
 use Rattle.semantics_laws.proofs.Lists.{each_as, each_filter_map}
-use Rattle.condition_laws.specs.Formed.{NormalIsFormed, ClausesAreFormed, SimplifiedIsFormed, SimpleActionIsFormed}
 use Rattle.condition_laws.proofs.Clauses.{each_of_both, each_of_pairs, each_clause_of_both}
 use Rattle.condition_laws.proofs.Acting.{simple, of_simple}
 
@@ -282,14 +281,17 @@ simple_is p a h w oracle = record {
 
 -- ---- the laws
 
-pub normal_is_formed : NormalIsFormed
+pub normal_is_formed : (p : Parts) (objects scope : List Typed) (f : Formula) → IsFormula p objects scope f →
+    IsFormula p objects scope (nnf f) × IsFormula p objects scope (nnf_not f)
 normal_is_formed p objects scope f h = (nnf_is p objects scope f h, nnf_not_is p objects scope f h)
 
-pub clauses_are_formed : ClausesAreFormed
+pub clauses_are_formed : (p : Parts) (objects scope : List Typed) (f : Formula) → IsFormula p objects scope f →
+    Every (λ clause. Every (IsFormula p objects scope) clause) (clauses f)
 clauses_are_formed p objects scope f h = clauses_are p objects scope f h
 
-pub simplified_is_formed : SimplifiedIsFormed
+pub simplified_is_formed : (p : Parts) (objects scope : List Typed) (f : Formula) → IsFormula p objects scope f →
+    (w : World) (oracle : Oracle) → IsFormula p objects scope (simplified w oracle f)
 simplified_is_formed p objects scope f h w oracle = simplified_is p objects w oracle scope f h
 
-pub simple_action_is_formed : SimpleActionIsFormed
+pub simple_action_is_formed : (p : Parts) (a b : Action) → IsAction p a → (w : World) (oracle : Oracle) → simple_action w oracle a ≡ Some b → IsAction p b
 simple_action_is_formed p a b is w oracle h = subst (IsAction p) (of_simple w oracle a b h) (simple_is p a is w oracle)

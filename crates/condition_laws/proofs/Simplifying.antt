@@ -20,9 +20,10 @@ use Rattle.semantics_laws.proofs.Agreeing.{same_atom}
 use Rattle.semantics_laws.proofs.Lists.{each_member, same_map}
 use Rattle.semantics_laws.proofs.Same.{same_truth}
 use Rattle.condition_laws.specs.Assigned.{HasObject, IsAssigned, AreAssigned}
-use Rattle.condition_laws.specs.Oracles.{IsTrueTo, IsChanged}
-use Rattle.condition_laws.specs.Laws.{InitialTells, SimplifiedKeeps}
+use Rattle.condition_laws.specs.Oracles.{IsTrueTo, IsChanged, IsInitial, IsUnchanged}
 use Rattle.condition_laws.proofs.Values.{both_true, either_true, either_false, opposite_twice, all_append, any_append, all_empty, any_empty, any_of_false, all_of_true, any_of_true, all_of_false, some_false, some_true}
+use Rattle.up_tree.specs.declared.problem.Parts.{Parts}
+use Rattle.semantics_laws.specs.SameTruth.{SameTruth}
 
 -- ---- nodes as they are built
 
@@ -286,9 +287,10 @@ mutual
 
 -- ---- the laws
 
-pub simplified_keeps : SimplifiedKeeps
+pub simplified_keeps : (w : World) (s : State) (e : Assignment) (oracle : Oracle) (f : Formula) →
+    IsTrueTo s oracle → IsAssigned w e f → SameTruth w s e (simplified w oracle f) s e f
 simplified_keeps w s e oracle f is h = same_truth w s e (simplified w oracle f) s e f (simplified_truth w s oracle is e f h)
 
-pub initial_tells : InitialTells
+pub initial_tells : (p : Parts) (s : State) (oracle : Oracle) → IsInitial p oracle → IsUnchanged p s → IsTrueTo s oracle
 initial_tells p s oracle is same fact told h =
     sym (same_atom (λ x. ¬ IsChanged p x) (init p) s same fact.predicate (is.unchanged fact told h) fact.args) ∙ is.told fact told h

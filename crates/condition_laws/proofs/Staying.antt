@@ -12,7 +12,6 @@ use Rattle.up_tree.specs.Nodes.{not, imply, exists, forall}
 use Rattle.up_tree.specs.Objects.{World}
 use Rattle.up_tree.specs.Simplify.{Oracle, true_formula, false_formula, constant, conjuncts, disjuncts, is_true_formula, is_false_formula, alone_or, simple_and, simple_or, objects_in, simple_atom, simple_equal, without_not, simple_not, simple_imply, are_inhabited, simple_exists, simple_forall, simplified, all_conjuncts, all_disjuncts}
 use Rattle.condition_laws.specs.Shapes.{IsNormal, AreNormal, IsQuantifierFree, AreQuantifierFree}
-use Rattle.condition_laws.specs.Laws.{SimplifiedIsNormal, SimplifiedIsQuantifierFree}
 use Rattle.condition_laws.proofs.Forming.{normal-And, normal-Or, free-And, free-Or}
 use Rattle.condition_laws.proofs.Clauses.{each_of_both}
 use Rattle.condition_laws.proofs.Carrying.{not_constant}
@@ -259,8 +258,8 @@ module _ (w : World) (oracle : Oracle) where
         each_of_both IsQuantifierFree (disjuncts (simplified w oracle f)) (all_disjuncts w oracle fs)
         (free_disjuncts (simplified w oracle f) (still_free f h.0)) (disjuncts_free fs h.1)
 
-pub simplified_is_normal : SimplifiedIsNormal
+pub simplified_is_normal : (w : World) (oracle : Oracle) (f : Formula) → IsNormal f → IsNormal (simplified w oracle f)
 simplified_is_normal w oracle f h = still_normal w oracle f h
 
-pub simplified_is_free : SimplifiedIsQuantifierFree
+pub simplified_is_free : (w : World) (oracle : Oracle) (f : Formula) → IsQuantifierFree f → IsQuantifierFree (simplified w oracle f)
 simplified_is_free w oracle f h = still_free w oracle f h

@@ -1,15 +1,14 @@
 -- Laws that rewriting gains no feature, but those that it is known to gain.
-use Rattle.std.specs.Prelude.{◌≡◌, ◌⊎◌, Bool, false, not as flip, IsTrue, List, ◌∷◌, map, Some}
+use Rattle.std.specs.Prelude.{◌≡◌, ◌⊎◌, Bool, false, not as flip, IsTrue, ◌∷◌, map}
 use Rattle.std.specs.List.{list_any}
 use Rattle.up_text.specs.Lists.{Every, Somewhere}
-use Rattle.up_tree.specs.declared.formula.Formula.{Formula, And}
+use Rattle.up_tree.specs.declared.formula.Formula.{Formula}
 use Rattle.up_tree.specs.declared.action.Row.{Row}
 use Rattle.up_tree.specs.declared.action.Action.{Action}
 use Rattle.up_tree.specs.Objects.{World}
-use Rattle.up_tree.specs.Normal.{nnf, clauses}
-use Rattle.up_tree.specs.Simplify.{Oracle, is_true_formula, is_false_formula, simplified, simple_action}
+use Rattle.up_tree.specs.Normal.{nnf}
+use Rattle.up_tree.specs.Simplify.{Oracle, is_true_formula, is_false_formula, simplified}
 use Rattle.up_kind.specs.Carried.{anywhere, is_not, is_disjunctive, is_equal, is_exists, is_forall, is_compare}
-use Rattle.condition_laws.specs.Shapes.{IsLiteral}
 
 -- the test holds of the formula or of one inside it
 abbrev pub Has : (Formula → Bool) → Formula → Type 0
@@ -28,17 +27,6 @@ pub record NormalCarries (f : Formula) : Type 0 where
   pub existential : Has is_exists (nnf f) → Has is_exists f ⊎ (Has is_forall f × Has is_disjunctive f)
   pub universal : Has is_forall (nnf f) → Has is_forall f ⊎ (Has is_exists f × Has is_disjunctive f)
 
-abbrev pub NormalsCarry : Type 0
-NormalsCarry = (f : Formula) → NormalCarries f
-
--- the formulas of clauses have nothing that the formula doesn't have
-abbrev pub ClausesCarry : Type 0
-ClausesCarry = (test : Formula → Bool) (f : Formula) → Every (λ clause. Every (λ literal. NoMore test literal f) clause) (clauses f)
-
--- literals by `and` are not disjunctive
-abbrev pub LiteralsAreNotDisjunctive : Type 0
-LiteralsAreNotDisjunctive = (clause : List Formula) → Every IsLiteral clause → anywhere is_disjunctive (And clause) ≡ false
-
 -- of a simplified formula; `false` is an `or` with no members
 pub record SimplifiedCarries (w : World) (oracle : Oracle) (f : Formula) : Type 0 where
   pub negations : NoMore is_not (simplified w oracle f) f
@@ -47,9 +35,6 @@ pub record SimplifiedCarries (w : World) (oracle : Oracle) (f : Formula) : Type 
   pub universal : NoMore is_forall (simplified w oracle f) f
   pub comparisons : NoMore is_compare (simplified w oracle f) f
   pub disjunctive : is_false_formula (simplified w oracle f) ≡ false → NoMore is_disjunctive (simplified w oracle f) f
-
-abbrev pub SimplifiedCarry : Type 0
-SimplifiedCarry = (w : World) (oracle : Oracle) (f : Formula) → SimplifiedCarries w oracle f
 
 -- some condition of the action has it
 abbrev pub ActionHas : (Formula → Bool) → Action → Type 0
@@ -74,6 +59,3 @@ pub record ActionCarries (w : World) (oracle : Oracle) (b a : Action) : Type 0 w
   pub universal : ActionHas is_forall b → ActionHas is_forall a
   pub comparisons : ActionHas is_compare b → ActionHas is_compare a
   pub conditional : IsTrue (list_any (λ r. flip (is_true_formula r.when)) b.rows) → IsTrue (list_any (λ r. flip (is_true_formula r.when)) a.rows)
-
-abbrev pub SimpleActionsCarry : Type 0
-SimpleActionsCarry = (w : World) (oracle : Oracle) (a b : Action) → simple_action w oracle a ≡ Some b → ActionCarries w oracle b a

@@ -6,16 +6,17 @@ use Rattle.up_tree.specs.declared.term.Typed.{Typed}
 use Rattle.up_tree.specs.declared.action.Row.{Row}
 use Rattle.up_tree.specs.declared.problem.Parts.{Parts}
 use Rattle.up_tree.specs.Objects.{world, Assignment, assign, unassigned, tuples}
-use Rattle.up_tree.specs.WellFormed.{IsWellFormed, AreVariables, IsFormula, IsRow}
+use Rattle.up_tree.specs.WellFormed.{IsWellFormed, AreVariables, IsFormula, IsRow, IsAction}
 use Rattle.semantics_laws.specs.Replaced.{replacement, under}
 use Rattle.semantics_laws.proofs.Lists.{each_as, each_map, each_flat_map, each_member}
 use Rattle.expansion_laws.specs.Substituted.{substituted_row, instance}
 use Rattle.expansion_laws.specs.Expanded.{row_at, row_expanded, action_expanded}
 use Rattle.expansion_forms.specs.Covered.{Declares, Covers}
-use Rattle.expansion_forms.specs.Laws.{InstanceIsWell, ExpandedActionIsWell}
 use Rattle.expansion_forms.proofs.Covering.{covers_itself, covers_arguments, covers_tuple, covers_under, first_objects}
 use Rattle.expansion_forms.proofs.Terms.{effect_well}
 use Rattle.expansion_forms.proofs.Formulas.{variables_well, replaced_well, expanded_well}
+use Rattle.std.specs.Prelude.{◌≡◌}
+use Rattle.up_tree.specs.declared.action.Action.{Action}
 
 no_variables : (q : Parts) (scope : List Typed) → AreVariables q scope []
 no_variables q scope = record { names_all = tt; differ = tt; fresh = tt; typed = tt }
@@ -42,7 +43,9 @@ module _ (p q : Parts) (well : IsWellFormed p) (declares : Declares p q) where
         effect = effect_well p q well declares (take p.constants p.objects) (row.vars ++ params) params (first_objects p p.constants) e inside row.effect is.effect;
       }
 
-pub instance_well : InstanceIsWell
+pub instance_well : (p q : Parts) → IsWellFormed p → Declares p q → take q.constants q.objects ≡ q.objects →
+    (name : Name) (a : Action) (args : List Name) → IsAction p a → Member args (tuples (world p) a.params) →
+    IsAction q (instance name a args)
 instance_well p q well declares all name a args is m =
     let covers : Covers p (replacement a.params args) a.params [] = covers_arguments p well a.params args is.params.differ m in
     record {
@@ -54,7 +57,8 @@ instance_well p q well declares all name a args is m =
           (each_as (IsRow p (take p.constants p.objects) a.params) _ (substituted_well p q well declares a.params args covers) a.rows is.rows));
     }
 
-pub expanded_action_well : ExpandedActionIsWell
+pub expanded_action_well : (p q : Parts) → IsWellFormed p → Declares p q → take q.constants q.objects ≡ q.objects →
+    (a : Action) → IsAction p a → IsAction q (action_expanded (world p) a)
 expanded_action_well p q well declares all a is = record {
   params = variables_well p q declares [] [] a.params (λ v m. m) is.params;
   pre = subst (λ objects. IsFormula q objects a.params (action_expanded (world p) a).pre) (sym all)

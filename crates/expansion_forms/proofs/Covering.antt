@@ -13,7 +13,7 @@ use Rattle.up_tree.specs.WellFormed.{IsWellFormed}
 use Rattle.semantics_laws.specs.Replaced.{replacement, binds, under}
 use Rattle.semantics_laws.proofs.Replacing.{assign-is}
 use Rattle.up_eval.proofs.Types.{no_none, same_some, object_of}
-use Rattle.expansion_laws.specs.Laws.{AreTyped}
+use Rattle.expansion_laws.specs.Tuples.{AreTyped}
 use Rattle.expansion_laws.proofs.Typed.{typed_tuples, no_fewer, less_one}
 use Rattle.expansion_forms.specs.Covered.{AreObjects, IsObjectOf, StandsFor, Covers}
 

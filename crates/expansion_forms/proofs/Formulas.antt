@@ -13,7 +13,6 @@ use Rattle.semantics_laws.specs.Replaced.{under, replaced, replaced_members}
 use Rattle.semantics_laws.proofs.Lists.{each_as, each_map, each_member}
 use Rattle.expansion_laws.specs.Expanded.{expanded, all_expanded}
 use Rattle.expansion_forms.specs.Covered.{Declares, AreObjects, Covers}
-use Rattle.expansion_forms.specs.Laws.{ReplacedIsWell, ExpandedIsWell}
 use Rattle.expansion_forms.proofs.Covering.{names, covers_tuple, covers_under}
 use Rattle.expansion_forms.proofs.Terms.{term_well, atom_well, expr_well}
 
@@ -103,8 +102,10 @@ module _ (p q : Parts) (well : IsWellFormed p) (declares : Declares p q) (object
     expanded_formulas scope outer e covers end_of-Formula is = tt
     expanded_formulas scope outer e covers (more_of-Formula f fs) is = (expanded_formula scope outer e covers f is.0, expanded_formulas scope outer e covers fs is.1)
 
-pub replaced_well : ReplacedIsWell
+pub replaced_well : (p q : Parts) → IsWellFormed p → Declares p q → (objects scope outer : List Typed) → AreObjects p objects →
+    (e : Assignment) → Covers p e scope outer → (f : Formula) → IsFormula p objects scope f → IsFormula q q.objects outer (replaced e f)
 replaced_well p q well declares objects scope outer are e covers f is = replaced_formula p q well declares objects are scope outer e covers f is
 
-pub expanded_well : ExpandedIsWell
+pub expanded_well : (p q : Parts) → IsWellFormed p → Declares p q → (objects scope outer : List Typed) → AreObjects p objects →
+    (e : Assignment) → Covers p e scope outer → (f : Formula) → IsFormula p objects scope f → IsFormula q q.objects outer (expanded (world p) e f)
 expanded_well p q well declares objects scope outer are e covers f is = expanded_formula p q well declares objects are scope outer e covers f is

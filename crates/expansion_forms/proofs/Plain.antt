@@ -12,7 +12,7 @@ use Rattle.up_tree.specs.WellFormed.{HasNoFluent, IsPlain, ArePlain}
 use Rattle.semantics_laws.specs.Replaced.{under, in_place, replaced_term, replaced, replaced_members}
 use Rattle.semantics_laws.proofs.Lists.{each_map, each_member}
 use Rattle.expansion_laws.specs.Expanded.{expanded, all_expanded}
-use Rattle.expansion_forms.specs.Laws.{PlainStays}
+
 
 no_fluent : (e : Assignment) (ts : List Term) → HasNoFluent ts → HasNoFluent (map (replaced_term e) ts)
 unfolding replaced_term
@@ -75,5 +75,6 @@ mutual
   all_expanded_plain w e end_of-Formula h = h
   all_expanded_plain w e (more_of-Formula f fs) h = (expanded_plain w e f h.0, all_expanded_plain w e fs h.1)
 
-pub plain_stays : PlainStays
+pub plain_stays : (f : Formula) → IsPlain f →
+    ((e : Assignment) → IsPlain (replaced e f)) × ((w : World) (e : Assignment) → IsPlain (expanded w e f))
 plain_stays f h = ((λ e. replaced_plain e f h), (λ w e. expanded_plain w e f h))

@@ -22,14 +22,16 @@ use Rattle.up_eval.proofs.Types.{no_none}
 use Rattle.expansion_laws.specs.Expanded.{action_expanded, problem_expanded}
 use Rattle.expansion_laws.proofs.Lists.{map_of_map}
 use Rattle.expansion_laws.proofs.Unchanged.{same_expr, same_formula}
-use Rattle.expansion_forms.specs.Covered.{Declares}
-use Rattle.expansion_forms.specs.Laws.{ProblemExpandedIsWell, DeclaredIsWell, MoreDeclares}
+use Rattle.expansion_forms.specs.Covered.{Declares, AreObjects}
 use Rattle.expansion_forms.proofs.Covering.{covers_itself, all_objects}
 use Rattle.expansion_forms.proofs.Terms.{expr_well}
 use Rattle.expansion_forms.proofs.Formulas.{variables_well, replaced_well, expanded_well}
 use Rattle.expansion_forms.proofs.Actions.{expanded_action_well}
+use Rattle.up_tree.specs.declared.term.Typed.{Typed}
+use Rattle.up_tree.specs.declared.formula.Formula.{Formula}
 
-pub declared_well : DeclaredIsWell
+pub declared_well : (p q : Parts) → IsWellFormed p → Declares p q →
+    (objects scope : List Typed) → AreObjects p objects → (f : Formula) → IsFormula p objects scope f → IsFormula q q.objects scope f
 declared_well p q well declares objects scope are f is =
     subst (IsFormula q q.objects scope) (same_formula f) (replaced_well p q well declares objects scope scope are unassigned (covers_itself p scope) f is)
 
@@ -43,7 +45,8 @@ found_first test (z ∷ xs) ys x is = by (test z) is (found_first test xs ys x)
     by true is more = is
     by false is more = more is
 
-pub more_declares : MoreDeclares
+pub more_declares : (p q : Parts) → q.types ≡ p.types → q.objects ≡ p.objects → q.functions ≡ p.functions →
+    (more : List Predicate) → q.predicates ≡ p.predicates ++ more → Declares p q
 more_declares p q types objects functions more predicates = record {
   types = λ t is. subst (λ entries. (t ≡ top_type) ⊎ IsSome (named entries t)) (sym types) is;
   below = λ t above is. subst (λ (w : World). Member above (type_chain w t)) (λ i. record { types = sym types i; objects = sym objects i }) is;
@@ -109,7 +112,7 @@ module _ (p : Parts) (well : IsWellFormed p) where
         (λ f so. (declared_well p q well (declares_expanded p) p.objects c.vars (all_objects p) f so.0, so.1)) (formulas_of c.rule) is.formulas;
   }
 
-pub problem_well : ProblemExpandedIsWell
+pub problem_well : (p : Parts) → IsWellFormed p → IsWellFormed (problem_expanded p)
 problem_well p well = record {
   domain = well.domain;
   name = well.name;

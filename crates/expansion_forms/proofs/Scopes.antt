@@ -22,7 +22,8 @@ use Rattle.semantics_laws.proofs.Lists.{each_as, same_map}
 use Rattle.semantics_laws.specs.Replaced.{replacement, binds}
 use Rattle.semantics_laws.proofs.Replacing.{Fits, all_fit, assign-is, binds-is}
 use Rattle.expansion_laws.proofs.Truths.{true_together, false_together}
-use Rattle.expansion_forms.specs.Laws.{ScopeDecides}
+use Rattle.expansion_forms.specs.Scope.{SameInScope}
+
 
 -- the assignments agree on the scope
 abbrev pub Agree : Assignment → Assignment → List Typed → Type 0
@@ -116,7 +117,8 @@ module _ (s : State) (p : Parts) (objects : List Typed) where
       same_truths scope d e agree end_of-Formula is = refl
       same_truths scope d e agree (more_of-Formula f fs) is = λ i. same_truth scope d e agree f is.0 i ∷ same_truths scope d e agree fs is.1 i
 
-pub scope_decides : ScopeDecides
+pub scope_decides : (s : State) (d e : Assignment) (p : Parts) (objects scope : List Typed) →
+    ((v : Name) → IsSome (named scope v) → d v ≡ e v) → SameInScope s d e p objects scope
 scope_decides s d e p objects scope agree = record {
   terms = same_term s p objects scope d e agree;
   exprs = same_number s p objects scope d e agree;

@@ -1,6 +1,6 @@
 -- Rows of an instance meet only where rows of the action do.
 use Rattle.std.proofs.Common.{◌≡◌, Bool, true, false, ◌&&◌, ◌||◌, cond, List, [], ◌∷◌, ◌++◌, map, zip, take, Option, Some, None, option_map, IsSome, IsSomeAnd, refl, ap, sym, ◌∙◌, subst, inl, inr, ⊎_elim}
-use Rattle.std.specs.Prelude.{if◌then◌else◌, not as flip}
+use Rattle.std.specs.Prelude.{if◌then◌else◌, not as flip, IsTrue}
 use Rattle.std.specs.Option.{option_or}
 use Rattle.std.specs.List.{list_all, list_any}
 use Rattle.std.specs.Cmp.Lexicographic.{bytes_decides}
@@ -27,7 +27,6 @@ use Rattle.expansion_laws.specs.Substituted.{replaced_effect, substituted_row, i
 use Rattle.expansion_laws.proofs.Lists.{of_map}
 use Rattle.expansion_forms.specs.Covered.{IsObjectOf, StandsFor}
 use Rattle.expansion_forms.proofs.Covering.{names, covers_arguments}
-use Rattle.expansion_kinds.specs.Laws.{InstancesMeet}
 use Rattle.expansion_kinds.proofs.Tests.{never, or_cases, or_first, or_second, and_first, and_second, and_both, is_false, turned_back, any_member, any_there}
 
 same_itself : (v : Name) → same_name v v ≡ true
@@ -354,5 +353,7 @@ module _ (p : Parts) (well : IsWellFormed p) (name : Name) (a : Action) (args : 
       (any_there (meet p a d.0) a.rows r.0 r.1
       (meet_back d.0 r.0 d.1 r.1 d.0.effect r.0.effect ((λ i. meet p made (sym d.2 i) (sym r.2 i)) ∙ two.2)))
 
-pub instances_meet : InstancesMeet
+pub instances_meet : (p : Parts) → IsWellFormed p → (name : Name) (a : Action) (args : List Name) → IsAction p a →
+    Member args (tuples (world p) a.params) →
+    IsTrue (has_meeting_rows p (instance name a args)) → IsTrue (has_meeting_rows p a)
 instances_meet p well name a args is member h = meeting_back p well name a args is member h

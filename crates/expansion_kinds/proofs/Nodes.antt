@@ -12,7 +12,9 @@ use Rattle.up_tree.specs.Simplify.{is_empty, is_true_formula}
 use Rattle.up_kind.specs.Carried.{anywhere, in_row, is_not, is_disjunctive, is_equal, is_exists, is_forall, is_compare, is_numeric, is_scale, is_undefine, is_fluent, has_fluent, touches_objects}
 use Rattle.semantics_laws.specs.Replaced.{Replacement, under, in_place, replaced_term, replaced_expr, replaced, replaced_members}
 use Rattle.expansion_laws.specs.Substituted.{replaced_effect}
-use Rattle.expansion_kinds.specs.Laws.{FormulasKeepNodes, RowsStaySame}
+use Rattle.expansion_kinds.specs.Kept.{HasSameNodes, IsSameRow}
+use Rattle.up_tree.specs.declared.action.Row.{Row}
+
 
 -- a test that asks for the node alone
 abbrev Keeps : (Formula → Bool) → Type 0
@@ -121,7 +123,7 @@ disjunctive_keeps r (Atom name ts) = refl
 disjunctive_keeps r (Equal a b) = refl
 disjunctive_keeps r (Compare relation a b) = refl
 
-pub formulas_keep_nodes : FormulasKeepNodes
+pub formulas_keep_nodes : (r : Replacement) (f : Formula) → HasSameNodes r f
 formulas_keep_nodes r f = record {
   negative = same_anywhere is_not not_keeps r f;
   disjunctive = same_anywhere is_disjunctive disjunctive_keeps r f;
@@ -200,7 +202,7 @@ same_undefining r (effect.Number change f ts x) = refl
 same_undefining r (effect.Object f ts t) = refl
 same_undefining r (effect.Undefine f ts) = refl
 
-pub rows_stay_same : RowsStaySame
+pub rows_stay_same : (r : Replacement) (row : Row) → IsSameRow r row
 rows_stay_same r row = record {
   conditional = same_always (under row.vars r) row.when;
   numeric = same_numeric (under row.vars r) row.effect;

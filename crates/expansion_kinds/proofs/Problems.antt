@@ -18,19 +18,19 @@ use Rattle.up_tree.specs.Objects.{World, world, Assignment, assign, unassigned, 
 use Rattle.up_tree.specs.Simplify.{is_empty, is_true_formula}
 use Rattle.up_tree.specs.WellFormed.{formulas_of}
 use Rattle.up_kind.specs.declared.feature.Feature.TheVariants.{FlatTyping, HierarchicalTyping, ActionParameters, NegativeConditions, DisjunctiveConditions, Equalities, ExistentialConditions, UniversalConditions, ConditionalEffects, ForallEffects, ObjectFluents, NumericFluents, NumericConditions, NumericEffects, ScaleEffects, Metric, TrajectoryConstraints, EffectOverlap, ObjectTermsUnderForall, PartialFluents}
-use Rattle.up_kind.specs.Features.{is_in, either, minus}
+use Rattle.up_kind.specs.Features.{is_in, either, minus, IsSubset}
 use Rattle.up_kind.specs.Carried.{anywhere, is_not, is_disjunctive, is_equal, is_exists, is_forall, is_compare, conditions, some_condition, some_row, is_numeric, is_scale, is_undefine, touches_objects, gives_an_object, is_total, carries}
 use Rattle.up_kind.specs.Meeting.{share, is_guarded, may_agree, meet_by, meet, has_meeting_rows}
 use Rattle.up_kind.proofs.Shapes.{always-And}
-use Rattle.up_compiler.specs.Table.{only_if}
+use Rattle.up_compiler.specs.Table.{only_if, row_result}
 use Rattle.expansion_laws.specs.Substituted.{replaced_effect}
 use Rattle.expansion_laws.specs.Expanded.{expanded, all_expanded, row_at, row_expanded, action_expanded, problem_expanded}
 use Rattle.expansion_laws.proofs.Lists.{in_first, in_second, in_either, in_map, of_map, in_flat, of_flat}
 use Rattle.expansion_laws.proofs.Unchanged.{same_effect}
-use Rattle.expansion_kinds.specs.Laws.{ProblemsCarry}
 use Rattle.expansion_kinds.proofs.Tests.{never, or_cases, or_first, or_second, and_first, and_second, and_both, turned_back, any_member, any_there, all_as}
 use Rattle.expansion_kinds.proofs.Passing.{formulas_carry}
 use Rattle.expansion_kinds.proofs.Guarding.{still_guarded}
+use Rattle.up_compiler.specs.declared.id.CompilerId.TheVariants.{Quantifiers}
 
 -- ---- each condition of the expanded problem comes from one of the problem
 
@@ -258,7 +258,8 @@ params_stay w (a ∷ actions) = ap (λ b. flip (is_empty a.params) || b) (params
 kept : (b rest : Bool) → b ≡ true → ((b && true) || rest) ≡ true
 kept b rest e = or_first (b && true) rest (and_both b true e refl)
 
-pub problems_carry : ProblemsCarry
+pub problems_carry : (p : Parts) → carries p TrajectoryConstraints ≡ false →
+    IsSubset (carries (problem_expanded p)) (row_result Quantifiers (carries p))
 unfolding either minus is_in only_if
 problems_carry p none FlatTyping h = kept (carries p FlatTyping) _ h
 problems_carry p none HierarchicalTyping h = kept (carries p HierarchicalTyping) _ h

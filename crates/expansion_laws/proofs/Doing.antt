@@ -19,7 +19,7 @@ use Rattle.up_tree.specs.Changes.{NumberChange, ObjectChange, added, deleted, nu
 use Rattle.up_tree.specs.Faults.{Fault, unknown, arity, argument_type, precondition, condition_undefined, object_undefined, number_undefined, number_conflict, object_conflict, ObjectUndefined, NeedsOld, IsScaleDown, IsShift, NumberUndefined, OfEffect, ActionApplies}
 use Rattle.semantics_laws.proofs.Stepping.{number_change_of, object_change_of, undefining}
 use Rattle.expansion_laws.specs.Outcomes.{Deed, adds, deletes, undefines, counts, assigns, deed, Outcome, outcome, deeds}
-use Rattle.expansion_laws.specs.Laws.{SameDoing, SameOutcomes, OutcomesDecide}
+use Rattle.expansion_laws.specs.SameDoing.{SameDoing, SameOutcomes}
 use Rattle.expansion_laws.proofs.Truths.{undefined-is, true_together}
 
 pub by_path : {A B : Type 0} → A ≡ B → A ↔ B
@@ -177,34 +177,35 @@ module _ (w : World) (s : State) where
       let more : Somewhere (λ i. IsUndefined w s i.assignment i.row.when) is ↔ Somewhere (λ o. o.truth ≡ truth.Undefined) (map (outcome w s) is) = undefined-are is in
       (⊎_elim (λ h. inl (one.0 h)) (λ h. inr (more.0 h)), ⊎_elim (λ h. inl (one.1 h)) (λ h. inr (more.1 h)))
 
-module _ (w : World) (a : Action) (args : List Name) (v : World) (b : Action) (brgs : List Name) (same : SameOutcomes w a args v b brgs) where
-  same_deeds : (s : State) → deeds w s a args ≡ deeds v s b brgs
-  same_deeds s = deeds-are w s (instances w a args) ∙ ap (filter_map kept) (same.rows s) ∙ sym (deeds-are v s (instances v b brgs))
+module _ (w : World) (a : Action) (args : List Name) (v : World) (b : Action) (b_args : List Name) (same : SameOutcomes w a args v b b_args) where
+  same_deeds : (s : State) → deeds w s a args ≡ deeds v s b b_args
+  same_deeds s = deeds-are w s (instances w a args) ∙ ap (filter_map kept) (same.rows s) ∙ sym (deeds-are v s (instances v b b_args))
 
-  same_faults : (s : State) (fault : Fault) → ActionApplies w s a args fault ↔ ActionApplies v s b brgs fault
+  same_faults : (s : State) (fault : Fault) → ActionApplies w s a args fault ↔ ActionApplies v s b b_args fault
   same_faults s unknown = same.unknown_both s
   same_faults s arity = same.arity_both s
   same_faults s argument_type = same.type_both s
-  same_faults s precondition = denied (true_together w (action_assignment a args) a.pre v (action_assignment b brgs) b.pre s (same.pre s))
+  same_faults s precondition = denied (true_together w (action_assignment a args) a.pre v (action_assignment b b_args) b.pre s (same.pre s))
   same_faults s condition_undefined =
       after (undefined-are w s (instances w a args))
-      (after (by_path (ap (Somewhere (λ (o : Outcome). o.truth ≡ truth.Undefined)) (same.rows s))) (turned (undefined-are v s (instances v b brgs))))
-  same_faults s object_undefined = same_effects s (firing w s a args) (firing v s b brgs) (same_deeds s) ObjectUndefined ObjectUndefinedBy (object_undefined-is s)
-  same_faults s number_undefined = same_effects s (firing w s a args) (firing v s b brgs) (same_deeds s) NumberUndefined (NumberUndefinedBy s) (number_undefined-is s)
+      (after (by_path (ap (Somewhere (λ (o : Outcome). o.truth ≡ truth.Undefined)) (same.rows s))) (turned (undefined-are v s (instances v b b_args))))
+  same_faults s object_undefined = same_effects s (firing w s a args) (firing v s b b_args) (same_deeds s) ObjectUndefined ObjectUndefinedBy (object_undefined-is s)
+  same_faults s number_undefined = same_effects s (firing w s a args) (firing v s b b_args) (same_deeds s) NumberUndefined (NumberUndefinedBy s) (number_undefined-is s)
   same_faults s number_conflict =
-      by_path (λ i. (q : Ground) × let changes = changes_at q (same_numbers s (firing w s a args) (firing v s b brgs) (same_deeds s) i) in
+      by_path (λ i. (q : Ground) × let changes = changes_at q (same_numbers s (firing w s a args) (firing v s b b_args) (same_deeds s) i) in
       (2 ≤ length changes) × Somewhere (λ c. ¬ IsShift c.change) changes)
   same_faults s object_conflict =
-      by_path (λ i. (q : Ground) × let changes = objects_at q (same_objects s (firing w s a args) (firing v s b brgs) (same_deeds s) i) in
+      by_path (λ i. (q : Ground) × let changes = objects_at q (same_objects s (firing w s a args) (firing v s b b_args) (same_deeds s) i) in
       Somewhere (λ c. Somewhere (λ d. ¬ (c.value ≡ d.value)) changes) changes)
 
-  all_same : SameDoing w a args v b brgs
+  all_same : SameDoing w a args v b b_args
   all_same = record {
     outcomes = same.rows;
     deeds = same_deeds;
     faults = same_faults;
-    next = λ s. same_changed s (firing w s a args) (firing v s b brgs) (same_deeds s);
+    next = λ s. same_changed s (firing w s a args) (firing v s b b_args) (same_deeds s);
   }
 
-pub same_doing : OutcomesDecide
-same_doing w a args v b brgs same = all_same w a args v b brgs same
+pub same_doing : (w : World) (a : Action) (args : List Name) (v : World) (b : Action) (b_args : List Name) →
+    SameOutcomes w a args v b b_args → SameDoing w a args v b b_args
+same_doing w a args v b b_args same = all_same w a args v b b_args same

@@ -20,11 +20,13 @@ use Rattle.semantics_laws.proofs.Lists.{each_as, same_map}
 use Rattle.semantics_laws.proofs.Replacing.{Fits, all_fit, under-is, replaced_value, replaced_ground, replaced_number}
 use Rattle.expansion_laws.specs.Outcomes.{deed, outcome}
 use Rattle.expansion_laws.specs.Expanded.{over, expanded, all_expanded, row_at, row_expanded, action_expanded}
-use Rattle.expansion_laws.specs.Laws.{FormulasExpand, ReplacedExpand, RowsExpand, ActionsExpand}
 use Rattle.expansion_laws.proofs.Lists.{map_of_map, map_of_flat, flat_of_flat, flat_of_ones, same_flat}
 use Rattle.expansion_laws.proofs.Truths.{true_together, false_together, truth_of-And, truth_of-Or}
 use Rattle.expansion_laws.proofs.Doing.{same_doing}
 use Rattle.expansion_laws.proofs.Substituting.{replaced_deed}
+use Rattle.expansion_laws.specs.Kept.{ExpansionKeeps}
+use Rattle.up_tree.specs.declared.action.Action.{Action}
+use Rattle.expansion_laws.specs.SameDoing.{SameDoing}
 
 -- ---- assignment over assignment
 
@@ -67,7 +69,7 @@ mutual
   expanded_truths w v s e d end_of-Formula = refl
   expanded_truths w v s e d (more_of-Formula f fs) = λ i. expanded_truth w v s e d f i ∷ expanded_truths w v s e d fs i
 
-pub formulas_expand : FormulasExpand
+pub formulas_expand : (w : World) (e : Assignment) (f : Formula) → ExpansionKeeps w e f
 formulas_expand w e f = record {
   true_where = λ v s d. true_together v d (expanded w e f) w (over e d) f s (expanded_truth w v s e d f);
   false_where = λ v s d. false_together v d (expanded w e f) w (over e d) f s (expanded_truth w v s e d f);
@@ -115,7 +117,8 @@ at_tuples w r e vars f g same =
 mutual
   unfolding expanded all_expanded replaced replaced_members
 
-  pub replaced_expand : ReplacedExpand
+  pub replaced_expand : (w : World) (r : Replacement) (e : Assignment) (f : Formula) →
+      expanded w e (replaced r f) ≡ expanded w (over r e) f
   replaced_expand w r e (And' n fs) = ap And (members_expand w r e fs)
   replaced_expand w r e (Or' n fs) = ap Or (members_expand w r e fs)
   replaced_expand w r e (not f) = ap not (replaced_expand w r e f)
@@ -158,13 +161,15 @@ module _ (w v : World) (s : State) (e d : Assignment) where
       ∙ same_flat _ _ rows one_row
       ∙ sym (map_of_flat (outcome w s) (row_instances w (over e d)) rows)
 
-pub rows_expand : RowsExpand
+pub rows_expand : (w v : World) (s : State) (e d : Assignment) (row : Row) →
+    map (outcome v s) (flat_map (row_instances v d) (row_expanded w e row))
+    ≡ map (outcome w s) (row_instances w (over e d) row)
 rows_expand w v s e d row = map_of_flat (outcome v s) (row_instances v d) (row_expanded w e row) ∙ one_row w v s e d row
 
 same : {A : Type 0} → A ↔ A
 same = ((λ h. h), (λ h. h))
 
-pub actions_expand : ActionsExpand
+pub actions_expand : (w : World) (a : Action) (args : List Name) → SameDoing w a args w (action_expanded w a) args
 actions_expand w a args =
     same_doing w a args w (action_expanded w a) args (record {
       unknown_both = λ s. same;

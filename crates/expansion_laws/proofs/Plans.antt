@@ -20,10 +20,11 @@ use Rattle.up_tree.specs.Plans.{RunsFrom, IsRun, OfLast, ReachesGoal, KeepsRule,
 use Rattle.up_tree.proofs.Steps.{ByAction}
 use Rattle.semantics_laws.proofs.Lists.{each_as}
 use Rattle.expansion_laws.specs.Expanded.{action_expanded, problem_expanded}
-use Rattle.expansion_laws.specs.Laws.{SameStep, PlansExpand}
+use Rattle.expansion_laws.specs.SameDoing.{SameStep}
 use Rattle.expansion_laws.proofs.Doing.{by_path, after, turned}
 use Rattle.expansion_laws.proofs.Steps.{steps_follow}
 use Rattle.expansion_laws.proofs.Expanding.{formulas_expand, actions_expand}
+use Rattle.expansion_laws.specs.Kept.{PlansStay}
 
 -- ---- steps
 
@@ -100,7 +101,7 @@ constraints_stay p states cs = (
   (λ h. each_as (Keeps (problem_expanded p) states) (Keeps p states) (λ c k tuple m. (rule_stays p states _ c.rule).1 (k tuple m)) cs h),
 )
 
-pub plans_expand : PlansExpand
+pub plans_expand : (p : Parts) (plan : Plan) → PlansStay p plan
 plans_expand p plan = record {
   free = ((λ h. (h.0, (run_stays p plan h.0).0 h.1, (goal_stays p h.0).0 h.2)), (λ h. (h.0, (run_stays p plan h.0).1 h.1, (goal_stays p h.0).1 h.2)));
   all = (

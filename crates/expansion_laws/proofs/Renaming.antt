@@ -18,7 +18,8 @@ use Rattle.up_tree.specs.Value.{with_both, term_value, row_values, values_of, gr
 use Rattle.up_tree.specs.Judged.{opposite, either, all_of, any_of, atom_truth, equal_truth, compare_truth, truth_of, truths_of}
 use Rattle.semantics_laws.proofs.Same.{same_truth}
 use Rattle.expansion_laws.specs.Renamed.{new_name, renamed_variables, renamed_term, renamed_row, renamed_expr, renamed, renamed_members, TermLacks, RowLacks, ExprLacks, Lacks, AllLack}
-use Rattle.expansion_laws.specs.Laws.{RenamedKeeps}
+use Rattle.semantics_laws.specs.SameTruth.{SameTruth}
+
 
 pub test_of : (a b : Name) → (a ≡ b → ⊥) → same_name a b ≡ false
 test_of a b apart = by (same_name a b) refl
@@ -110,6 +111,7 @@ module _ (from to : Name) where
         same_members d e follows end_of-Formula lacks = refl
         same_members d e follows (more_of-Formula f fs) lacks = λ i. same_judged d e follows f lacks.0 i ∷ same_members d e follows fs lacks.1 i
 
-pub renamed_keeps : RenamedKeeps
+pub renamed_keeps : (w : World) (s : State) (from to : Name) (f : Formula) → Lacks to f → (e : Assignment) →
+    SameTruth w s e (renamed from to f) s (λ v. e (new_name from to v)) f
 renamed_keeps w s from to f lacks e =
     same_truth w s e (renamed from to f) s (λ v. e (new_name from to v)) f (same_judged from to s w (λ v. e (new_name from to v)) e (λ v not_v. refl) f lacks)

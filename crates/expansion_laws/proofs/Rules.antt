@@ -7,16 +7,17 @@ use Rattle.up_tree.specs.declared.formula.Formula.{Formula}
 use Rattle.up_tree.specs.declared.problem.Rule.{Rule}
 use Rattle.up_tree.specs.declared.problem.Rule.TheVariants.{Always, Sometime, AtMostOnce, SometimeAfter, SometimeBefore}
 use Rattle.up_tree.specs.declared.problem.Parts.{Parts}
-use Rattle.up_tree.specs.Objects.{world, Assignment, assign, unassigned}
+use Rattle.up_tree.specs.Objects.{world, Assignment, assign, unassigned, tuples}
 use Rattle.up_tree.specs.State.{State}
 use Rattle.up_tree.specs.Truth.{True}
-use Rattle.up_tree.specs.Plans.{TrueAt, NotTrueAt, KeepsRule}
+use Rattle.up_tree.specs.Plans.{TrueAt, NotTrueAt, KeepsRule, Keeps}
 use Rattle.semantics_laws.specs.Replaced.{substituted}
 use Rattle.semantics_laws.proofs.Lists.{each_as, each_member, same_somewhere}
 use Rattle.semantics_laws.proofs.Replacing.{formulas_substitute}
 use Rattle.expansion_laws.specs.Substituted.{substituted_rule}
-use Rattle.expansion_laws.specs.Laws.{ConstraintsSubstitute}
 use Rattle.expansion_laws.proofs.Doing.{denied}
+use Rattle.up_text.specs.Lists.{Member}
+use Rattle.up_tree.specs.declared.problem.Constraint.{Constraint}
 
 some_alike : {X : Type 0} (o : Option X) (P Q : X → Type 0) → ((x : X) → P x ↔ Q x) → IsSomeAnd o P ↔ IsSomeAnd o Q
 some_alike None P Q h = ((λ k. k), (λ k. k))
@@ -64,6 +65,9 @@ module _ (p : Parts) (states : List State) (vars : List Typed) (objects : List N
     (λ h i at. let some = h i ((there f i).0 at) in (some.0, some.1, (there g some.0).1 some.2)),
   )
 
-pub constraints_substitute : ConstraintsSubstitute
+pub constraints_substitute : (p : Parts) (states : List State) (c : Constraint) →
+    Keeps p states c
+    ↔ ((tuple : List Name) → Member tuple (tuples (world p) c.vars) →
+    KeepsRule p states unassigned (substituted_rule c.vars tuple c.rule))
 constraints_substitute p states c =
     ((λ h tuple m. (rule_substitutes p states c.vars tuple unassigned c.rule).1 (h tuple m)), (λ h tuple m. (rule_substitutes p states c.vars tuple unassigned c.rule).0 (h tuple m)))

@@ -13,12 +13,14 @@ use Rattle.up_tree.specs.Instances.{Instance, row_instances}
 use Rattle.semantics_laws.specs.Replaced.{Replacement, replacement, under}
 use Rattle.semantics_laws.proofs.Lists.{each_as, same_map}
 use Rattle.semantics_laws.proofs.Replacing.{over, Fits, all_fit, under-is, assigned, replaced_value, replaced_values, replaced_number, replaced_truth}
-use Rattle.expansion_laws.specs.Substituted.{replaced_effect, substituted_row, instance}
+use Rattle.expansion_laws.specs.Substituted.{replaced_effect, substituted_row, instance, substituted_effect}
 use Rattle.expansion_laws.specs.Outcomes.{adds, deletes, undefines, counts, assigns, deed, outcome}
-use Rattle.expansion_laws.specs.Laws.{EffectsSubstitute, RowsSubstitute, ActionsSubstitute}
 use Rattle.expansion_laws.proofs.Lists.{map_of_map, map_of_flat, flat_of_map, same_flat}
 use Rattle.expansion_laws.proofs.Doing.{same_doing}
 use Rattle.expansion_laws.proofs.Typed.{typed_tuples, no_fault}
+use Rattle.up_text.specs.Lists.{Member}
+use Rattle.up_tree.specs.declared.action.Action.{Action}
+use Rattle.expansion_laws.specs.SameDoing.{SameDoing}
 
 pub replaced_deed : (s : State) (e : Assignment) (r : Replacement) (f : Effect) → deed s e (replaced_effect r f) ≡ deed s (over r e) f
 replaced_deed s e r (Add name ts) = ap (adds name) (replaced_values s e r ts)
@@ -27,7 +29,8 @@ replaced_deed s e r (Number change f ts x) = λ i. counts change f (replaced_val
 replaced_deed s e r (Object f ts t) = λ i. assigns f (replaced_values s e r ts i) (replaced_value s e r t i)
 replaced_deed s e r (Undefine f ts) = ap (undefines f) (replaced_values s e r ts)
 
-pub effects_substitute : EffectsSubstitute
+pub effects_substitute : (s : State) (e : Assignment) (vars : List Typed) (objects : List Name) (f : Effect) →
+    deed s e (substituted_effect vars objects f) ≡ deed s (assign vars objects e) f
 effects_substitute s e vars objects f = replaced_deed s e (replacement vars objects) f ∙ ap (λ d. deed s d f) (assigned vars objects e)
 
 -- ---- rows
@@ -64,7 +67,9 @@ module _ (w : World) (s : State) (params : List Typed) (args : List Name) (d : A
       ∙ same_flat _ _ rows same_row
       ∙ sym (map_of_flat (outcome w s) (row_instances w (assign params args d)) rows)
 
-pub rows_substitute : RowsSubstitute
+pub rows_substitute : (w : World) (s : State) (e : Assignment) (vars : List Typed) (objects : List Name) (row : Row) →
+    map (outcome w s) (row_instances w e (substituted_row vars objects row))
+    ≡ map (outcome w s) (row_instances w (assign vars objects e) row)
 rows_substitute w s e vars objects row = same_row w s vars objects e row
 
 -- ---- typed arguments have none of the early faults
@@ -72,7 +77,8 @@ rows_substitute w s e vars objects row = same_row w s vars objects e row
 neither : {A B : Type 0} → ¬ A → ¬ B → A ↔ B
 neither n m = (λ a. absurd (n a), λ b. absurd (m b))
 
-pub actions_substitute : ActionsSubstitute
+pub actions_substitute : (w : World) (name : Name) (a : Action) (args : List Name) → Member args (tuples w a.params) →
+    SameDoing w a args w (instance name a args) []
 actions_substitute w name a args member =
     let none = no_fault w a args ((typed_tuples w a.params args).0 member) in
     same_doing w a args w (instance name a args) [] (record {

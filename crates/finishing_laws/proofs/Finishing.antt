@@ -20,7 +20,7 @@ use Rattle.up_tree.specs.Simplify.{Oracle, is_false_formula, simplified}
 use Rattle.up_tree.specs.WellFormed.{TermsFit, IsFormula, IsAction, IsFact, IsWellFormed, IsType}
 use Rattle.up_tree.proofs.Apart.{apart}
 use Rattle.up_tree.proofs.Judging.{judged}
-use Rattle.up_kind.specs.Features.{IsSubset}
+use Rattle.up_kind.specs.Features.{IsSubset, FeatureSet}
 use Rattle.up_kind.specs.Carried.{anywhere, carries}
 use Rattle.up_compiler.specs.declared.back.Entry.{Entry}
 use Rattle.up_compiler.specs.Back.{IsBack, AreOf, LeadsTo}
@@ -35,7 +35,7 @@ use Rattle.condition_laws.proofs.Holding.{none}
 use Rattle.condition_laws.proofs.Simplifying.{of_never}
 use Rattle.condition_laws.proofs.Problems.{simple_problems_keep_plans, simple_problems_keep_metrics, simple_problems_carry}
 use Rattle.condition_laws.proofs.Declaring.{simple_problems_are_formed}
-use Rattle.step_laws.specs.Naming.{Stands, entry_of}
+use Rattle.step_laws.specs.Naming.{Stands, entry_of, new_actions}
 use Rattle.step_laws.specs.Compiled.{IsCompiled}
 use Rattle.step_laws.proofs.Unchanged.{entries_are, source_compiled}
 use Rattle.step_laws.proofs.Together.{two_compile, weaker}
@@ -44,9 +44,8 @@ use Rattle.compiling_laws.proofs.Names.{fresh_is_new, fresh_is_name, new_names_o
 use Rattle.compiling_laws.proofs.Entries.{leads_from}
 use Rattle.compiling_laws.proofs.Declared.{more_are_declared}
 use Rattle.compiling_laws.specs.Forms.{symbols}
-use Rattle.compiling_laws.specs.Laws.{IsQuieter}
-use Rattle.finishing_laws.specs.Finished.{Goal, goal_rule, themselves, finished_by, finished}
-use Rattle.finishing_laws.specs.Laws.{AreUsed, FinishCompiles, CompiledFinish}
+use Rattle.compiling_laws.specs.Quieter.{IsQuieter}
+use Rattle.finishing_laws.specs.Finished.{Goal, goal_rule, themselves, finished_by, finished, AreUsed}
 use Rattle.compiling_laws.proofs.More.{action_stays, fact_stays, numbers_stay, values_stay, metric_stays, constraint_stays, gives_stay}
 use Rattle.finishing_laws.proofs.Left.{left, simple, news, left_new, news_themselves, left_entries, IsLeft, of_left, composed_left, entries_found, entries_within}
 use Rattle.finishing_laws.proofs.Unreached.{predicates_of, changed_among, holds_among, never_reached}
@@ -261,12 +260,15 @@ module _ (used : List Name) (oracle : Oracle) (p : Parts) (well : IsWellFormed p
       (subst (IsCompiled (carries p) p (record p { predicates = p.predicates ++ (goal_rule used goal).predicates; actions = acts; goal = (goal_rule used goal).formula }))
       (sym (left_entries (world p) oracle p.actions)) (by_rule (is_false_formula goal) refl))
 
-pub finish_compiles : FinishCompiles
+pub finish_compiles : (used : List Name) (oracle : Oracle) (p : Parts) → IsWellFormed p → IsInitial p oracle → AreUsed p used →
+    IsCompiled (carries p) p (finished used oracle p).parts (finished used oracle p).entries
 finish_compiles used oracle p well initial are = compiled used oracle p well initial are
 
 -- ---- what is compiled and then finished
 
-pub compiled_finish : CompiledFinish
+pub compiled_finish : (K : FeatureSet) (p r : Parts) (pairs : List Stands) → r.actions ≡ new_actions pairs → IsCompiled K p r (map entry_of pairs) →
+    (used : List Name) (oracle : Oracle) → IsWellFormed p → IsInitial r oracle → AreUsed r used →
+    IsCompiled K p (finished_by used oracle r pairs).parts (finished_by used oracle r pairs).entries
 compiled_finish K p r pairs news_are first used oracle well initial are =
     let formed : IsWellFormed r = first.formed well in
     let m : List Entry = map entry_of pairs in

@@ -9,6 +9,8 @@ use Rattle.up_tree.specs.declared.problem.Predicate.{Predicate}
 use Rattle.up_tree.specs.Objects.{World, world}
 use Rattle.up_tree.specs.Simplify.{Oracle, is_false_formula, simplified, simple_action}
 use Rattle.step_laws.specs.Naming.{Stands, entry_of, Made}
+use Rattle.up_text.specs.Lists.{Member}
+use Rattle.compiling_laws.specs.Forms.{symbols}
 
 -- a goal, and the predicates that it needs besides
 pub record Goal : Type 0 where
@@ -43,3 +45,7 @@ themselves actions = map (λ a. record { new = a; old = a }) actions
 
 abbrev pub finished : List Name → Oracle → Parts → Made
 finished used oracle p = finished_by used oracle p (themselves p.actions)
+
+-- all predicates and functions of the problem are among the names
+abbrev pub AreUsed : Parts → List Name → Type 0
+AreUsed p used = (name : Name) → Member name (symbols p) → Member name used

@@ -12,8 +12,8 @@ use Rattle.up_tree.specs.State.{State, ground, number_at, object_at}
 use Rattle.up_tree.specs.Value.{with_both, term_value, row_values, values_of, ground_at, number}
 use Rattle.up_tree.specs.Judged.{opposite, either, all_of, any_of, of_test, atom_truth, equal_truth, compare_truth, truth_of, truths_of}
 use Rattle.semantics_laws.specs.Symbols.{Symbol, predicate, function, TermNames, ArgumentsName, TermsName, ExprNames, FormulaNames, MembersName, AgreeOn}
-use Rattle.semantics_laws.specs.Laws.{TermsDepend, ExprsDepend, FormulasDepend}
 use Rattle.semantics_laws.proofs.Same.{same_truth}
+use Rattle.semantics_laws.specs.SameTruth.{SameTruth}
 
 -- tests that are true together are one
 one_test : (b c : Bool) → IsTrue b ↔ IsTrue c → b ≡ c
@@ -102,11 +102,11 @@ module _ (Names : Symbol → Type 0) (s t : State) (agree : AgreeOn Names s t) w
 
 -- ---- the laws
 
-pub terms_depend : TermsDepend
+pub terms_depend : (s t : State) (e : Assignment) (u : Term) → AgreeOn (TermNames u) s t → term_value s e u ≡ term_value t e u
 terms_depend s t e u agree = same_value (TermNames u) s t agree e u (λ x h. h)
 
-pub exprs_depend : ExprsDepend
+pub exprs_depend : (s t : State) (e : Assignment) (x : Expr) → AgreeOn (ExprNames x) s t → number s e x ≡ number t e x
 exprs_depend s t e x agree = same_number (ExprNames x) s t agree e x (λ y h. h)
 
-pub formulas_depend : FormulasDepend
+pub formulas_depend : (w : World) (s t : State) (e : Assignment) (f : Formula) → AgreeOn (FormulaNames f) s t → SameTruth w s e f t e f
 formulas_depend w s t e f agree = same_truth w s e f t e f (same_judged (FormulaNames f) s t agree w e f (λ x h. h))

@@ -17,12 +17,14 @@ use Rattle.up_tree.specs.Value.{term_value, values_of, number}
 use Rattle.up_tree.specs.Instances.{action_assignment, instances, firing}
 use Rattle.up_tree.specs.Changes.{NumberChange, ObjectChange, added, deleted, number_change, object_change, of_firing, is_at, objects_at, new_number, new_object, changed}
 use Rattle.up_tree.proofs.States.{contains-changed, number_at-changed}
-use Rattle.semantics_laws.specs.Symbols.{Symbol, predicate, function, target, AgreeOn}
-use Rattle.semantics_laws.specs.Laws.{RestStays}
+use Rattle.semantics_laws.specs.Symbols.{Symbol, predicate, function, target, AgreeOn, StepChanges}
 use Rattle.semantics_laws.proofs.Lists.{each_as, each_filter_map}
 use Rattle.semantics_laws.proofs.Tables.{tied, none_put}
 use Rattle.semantics_laws.proofs.Firing.{each_instance, each_fired}
 use Rattle.semantics_laws.proofs.Stepping.{number_change_of, object_change_of, undefining}
+use Rattle.up_tree.specs.declared.problem.Parts.{Parts}
+use Rattle.up_tree.specs.declared.problem.Step.{Step}
+use Rattle.up_tree.specs.Faults.{IsNext}
 
 -- ---- lists none of whose elements stand at a place
 
@@ -159,7 +161,7 @@ module _ (w : World) (s : State) (a : Action) (args : List Name) where
     values = λ name n objects. sym (object_stays name n objects);
   }
 
-pub rest_stays : RestStays
+pub rest_stays : (p : Parts) (s : State) (step : Step) (next : State) → IsNext p s step next → AgreeOn (λ x. ¬ StepChanges p step x) s next
 rest_stays p s step next = by (action_named p step.action)
   where
     by : (found : Option Action) → IsSomeAnd found (λ a. next ≡ changed s (firing (world p) s a step.args)) →

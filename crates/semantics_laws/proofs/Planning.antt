@@ -10,10 +10,11 @@ use Rattle.up_tree.specs.Truth.{True}
 use Rattle.up_tree.specs.Faults.{CanTake, IsNext}
 use Rattle.up_tree.proofs.Steps.{Reaches, reached, run_of, next_exists}
 use Rattle.semantics_laws.specs.Symbols.{Symbol, predicate, function, ActionNames, StepNames, ProblemNames, AgreeOn}
-use Rattle.semantics_laws.specs.Laws.{SameTruth, PlansDepend}
+use Rattle.semantics_laws.specs.SameTruth.{SameTruth}
 use Rattle.semantics_laws.proofs.Same.{same_truth}
 use Rattle.semantics_laws.proofs.Agreeing.{same_judged}
 use Rattle.semantics_laws.proofs.Stepping.{faults_depend, agree_after}
+use Rattle.semantics_laws.specs.StepsReachGoal.{StepsReachGoal}
 
 found_among : (test : Action → Bool) (P : Action → Type 0) (actions : List Action) → IsSomeAnd (find test actions) P → Somewhere P actions
 found_among test P [] h = h
@@ -44,7 +45,7 @@ both_reach p (step ∷ steps) s t z agree h =
     let more : (y : State) × Reaches p next.0 steps y × AgreeOn (ProblemNames p) z y = both_reach p steps h.1.0 next.0 z agree_then h.1.2 in
     (more.0, (can, (next.0, next.1, more.1)), more.2)
 
-pub plans_depend : PlansDepend
+pub plans_depend : (p : Parts) (s t : State) → AgreeOn (ProblemNames p) s t → (steps : List Step) → StepsReachGoal p s steps → StepsReachGoal p t steps
 plans_depend p s t agree steps h =
     let end : (z : State) × Reaches p s steps z × True (world p) z unassigned p.goal = reached p (λ z. True (world p) z unassigned p.goal) steps s h.0 h.1 h.2 in
     let other : (y : State) × Reaches p t steps y × AgreeOn (ProblemNames p) end.0 y = both_reach p steps s t end.0 agree end.1 in

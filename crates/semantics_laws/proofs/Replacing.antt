@@ -15,10 +15,10 @@ use Rattle.up_tree.specs.Objects.{World, Assignment, bind, assign, objects_of, t
 use Rattle.up_tree.specs.State.{State, ground, number_at, object_at}
 use Rattle.up_tree.specs.Value.{with_both, term_value, row_values, values_of, ground_at, number}
 use Rattle.up_tree.specs.Judged.{opposite, either, all_of, any_of, atom_truth, equal_truth, compare_truth, truth_of, truths_of}
-use Rattle.semantics_laws.specs.Replaced.{Replacement, replacement, binds, under, in_place, replaced_term, replaced_row, replaced_expr, replaced, replaced_members}
-use Rattle.semantics_laws.specs.Laws.{TermsSubstitute, ExprsSubstitute, FormulasSubstitute}
+use Rattle.semantics_laws.specs.Replaced.{Replacement, replacement, binds, under, in_place, replaced_term, replaced_row, replaced_expr, replaced, replaced_members, substituted_term, substituted_expr, substituted}
 use Rattle.semantics_laws.proofs.Lists.{each_as, each_map, each_flat_map, each_member, same_map}
 use Rattle.semantics_laws.proofs.Same.{same_truth}
+use Rattle.semantics_laws.specs.SameTruth.{SameTruth}
 
 -- the replaced variables' objects, over what is assigned
 abbrev pub over : Replacement → Assignment → Assignment
@@ -153,13 +153,16 @@ mutual
 pub assigned : (vars : List Typed) (objects : List Name) (e : Assignment) → over (replacement vars objects) e ≡ assign vars objects e
 assigned vars objects e = λ i v. sym (assign-is vars objects e v) i
 
-pub terms_substitute : TermsSubstitute
+pub terms_substitute : (s : State) (e : Assignment) (vars : List Typed) (objects : List Name) (t : Term) →
+    term_value s e (substituted_term vars objects t) ≡ term_value s (assign vars objects e) t
 terms_substitute s e vars objects t = replaced_value s e (replacement vars objects) t ∙ ap (λ d. term_value s d t) (assigned vars objects e)
 
-pub exprs_substitute : ExprsSubstitute
+pub exprs_substitute : (s : State) (e : Assignment) (vars : List Typed) (objects : List Name) (x : Expr) →
+    number s e (substituted_expr vars objects x) ≡ number s (assign vars objects e) x
 exprs_substitute s e vars objects x = replaced_number s e (replacement vars objects) x ∙ ap (λ d. number s d x) (assigned vars objects e)
 
-pub formulas_substitute : FormulasSubstitute
+pub formulas_substitute : (w : World) (s : State) (e : Assignment) (vars : List Typed) (objects : List Name) (f : Formula) →
+    SameTruth w s e (substituted vars objects f) s (assign vars objects e) f
 formulas_substitute w s e vars objects f =
     same_truth w s e (replaced (replacement vars objects) f) s (assign vars objects e) f
     (replaced_truth w s e (replacement vars objects) f ∙ ap (λ d. truth_of w s d f) (assigned vars objects e))

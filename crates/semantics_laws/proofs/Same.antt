@@ -9,7 +9,7 @@ use Rattle.up_tree.specs.Judged.{Judges, truth_of}
 use Rattle.up_tree.specs.Laws.{IsOne}
 use Rattle.up_tree.proofs.Judging.{judged}
 use Rattle.up_tree.proofs.Steps.{always_one}
-use Rattle.semantics_laws.specs.Laws.{SameTruth}
+use Rattle.semantics_laws.specs.SameTruth.{SameTruth}
 
 -- the one truth of a formula is the computed one
 pub computed : (w : World) (s : State) (e : Assignment) (f : Formula) (t : Truth) → Judges w s e f t → t ≡ truth_of w s e f

@@ -20,11 +20,11 @@ use Rattle.up_tree.specs.Value.{values_of, ground_at, number}
 use Rattle.up_tree.specs.Truth.{IsUndefined}
 use Rattle.up_tree.specs.Instances.{Instance, Fired, action_assignment, instances, fired, firing}
 use Rattle.up_tree.specs.Changes.{NumberChange, ObjectChange, added, deleted, number_change, object_change, of_firing, is_at, changes_at, objects_at, new_number, new_object, put, changed}
-use Rattle.up_tree.specs.Faults.{Fault, unknown, arity, argument_type, precondition, condition_undefined, object_undefined, number_undefined, number_conflict, object_conflict, ObjectUndefined, NeedsOld, IsScaleDown, IsShift, NumberUndefined, OfEffect, ActionApplies, IsNext}
+use Rattle.up_tree.specs.Faults.{Fault, unknown, arity, argument_type, precondition, condition_undefined, object_undefined, number_undefined, number_conflict, object_conflict, ObjectUndefined, NeedsOld, IsScaleDown, IsShift, NumberUndefined, OfEffect, ActionApplies, IsNext, Applies}
 use Rattle.up_tree.proofs.States.{contains-changed, number_at-changed}
 use Rattle.up_tree.proofs.Steps.{ByAction}
 use Rattle.semantics_laws.specs.Symbols.{Symbol, predicate, function, EffectNames, RowNames, ActionNames, StepNames, AgreeOn}
-use Rattle.semantics_laws.specs.Laws.{SameTruth, FaultsDepend, NextDepends, WiderDepends}
+use Rattle.semantics_laws.specs.SameTruth.{SameTruth}
 use Rattle.semantics_laws.proofs.Lists.{each_as, same_filter_map, same_somewhere}
 use Rattle.semantics_laws.proofs.Same.{same_truth}
 use Rattle.semantics_laws.proofs.Tables.{all_put}
@@ -233,7 +233,8 @@ module _ (Names : Symbol → Type 0) (s t : State) (agree : AgreeOn Names s t) w
 
 -- ---- the laws of a step
 
-pub faults_depend : FaultsDepend
+pub faults_depend : (p : Parts) (s t : State) (step : Step) → AgreeOn (StepNames p step) s t →
+    (fault : Fault) → Applies p s step fault ↔ Applies p t step fault
 faults_depend p s t step agree fault = by (action_named p step.action) agree
   where
     by : (found : Option Action) → AgreeOn (λ x. IsSomeAnd found (λ a. ActionNames a x)) s t → ByAction p s step.args found fault ↔ ByAction p t step.args found fault
@@ -252,8 +253,11 @@ agree_after Names p s t step within agree next_s next_t = by (action_named p ste
         subst (λ u. AgreeOn Names u next_t) (sym h)
         (subst (λ v. AgreeOn Names (changed s (firing (world p) s a step.args)) v) (sym k) (agree_next Names s t agree (world p) a step.args within))
 
-pub next_depends : NextDepends
+pub next_depends : (p : Parts) (s t : State) (step : Step) → AgreeOn (StepNames p step) s t →
+    (next_s next_t : State) → IsNext p s step next_s → IsNext p t step next_t → AgreeOn (StepNames p step) next_s next_t
 next_depends p s t step agree = agree_after (StepNames p step) p s t step (λ x h. h) agree
 
-pub wider_depends : WiderDepends
+pub wider_depends : (p : Parts) (s t : State) (step : Step) (symbols : List Symbol) →
+    ((x : Symbol) → StepNames p step x → Member x symbols) → AgreeOn (λ x. Member x symbols) s t →
+    (next_s next_t : State) → IsNext p s step next_s → IsNext p t step next_t → AgreeOn (λ x. Member x symbols) next_s next_t
 wider_depends p s t step symbols within agree = agree_after (λ x. Member x symbols) p s t step within agree

@@ -1,4 +1,5 @@
 pub mod Replaced
 pub mod Symbols
 pub mod Named
-pub mod Laws
+pub mod SameTruth
+pub mod StepsReachGoal

@@ -2,10 +2,10 @@ use Rattle.semantics_laws.proofs.Stepping.{faults_depend, next_depends, wider_de
 use Rattle.semantics_laws.proofs.laws.steps_depend_on_named_parts.Goals as goal
 
 pub returns-clause-faults : goal.returns-clause-faults
-returns-clause-faults c = faults_depend
+returns-clause-faults c = λ s t. faults_depend c.args._p.now s t c.args._step.now
 
 pub returns-clause-next : goal.returns-clause-next
-returns-clause-next c = next_depends
+returns-clause-next c = λ s t. next_depends c.args._p.now s t c.args._step.now
 
 pub returns-clause-wider : goal.returns-clause-wider
-returns-clause-wider c = wider_depends
+returns-clause-wider c = λ s t. wider_depends c.args._p.now s t c.args._step.now

@@ -1,23 +1,13 @@
 -- The features that expansion and substitution leave and bring.
-use Rattle.std.specs.Prelude.{◌≡◌, ◌⊎◌, List, false, IsTrue}
-use Rattle.up_text.specs.declared.name.Name.{Name}
-use Rattle.up_text.specs.Lists.{Member}
+use Rattle.std.specs.Prelude.{◌≡◌, ◌⊎◌, false, IsTrue}
 use Rattle.up_tree.specs.declared.formula.Formula.{Formula}
-use Rattle.up_tree.specs.declared.problem.Parts.{Parts}
-use Rattle.up_tree.specs.declared.action.Action.{Action}
 use Rattle.up_tree.specs.declared.action.Row.{Row}
-use Rattle.up_tree.specs.Objects.{World, world, Assignment, tuples}
+use Rattle.up_tree.specs.Objects.{World, Assignment}
 use Rattle.up_tree.specs.Simplify.{is_true_formula}
-use Rattle.up_tree.specs.WellFormed.{IsWellFormed, IsAction}
-use Rattle.up_kind.specs.declared.feature.Feature.TheVariants.{TrajectoryConstraints}
-use Rattle.up_kind.specs.Features.{IsSubset}
-use Rattle.up_kind.specs.Carried.{anywhere, is_not, is_disjunctive, is_equal, is_exists, is_forall, is_compare, is_numeric, is_scale, is_undefine, touches_objects, carries}
-use Rattle.up_kind.specs.Meeting.{has_meeting_rows}
-use Rattle.up_compiler.specs.declared.id.CompilerId.TheVariants.{Quantifiers}
-use Rattle.up_compiler.specs.Table.{row_result}
+use Rattle.up_kind.specs.Carried.{anywhere, is_not, is_disjunctive, is_equal, is_exists, is_forall, is_compare, is_numeric, is_scale, is_undefine, touches_objects}
 use Rattle.semantics_laws.specs.Replaced.{Replacement, replaced}
-use Rattle.expansion_laws.specs.Substituted.{replaced_effect_row, instance}
-use Rattle.expansion_laws.specs.Expanded.{expanded, problem_expanded}
+use Rattle.expansion_laws.specs.Substituted.{replaced_effect_row}
+use Rattle.expansion_laws.specs.Expanded.{expanded}
 
 -- no quantifier, and nothing else that the formula hasn't but the `or` of an `exists`
 pub record CarriesNoMore (w : World) (e : Assignment) (f : Formula) : Type 0 where
@@ -28,16 +18,6 @@ pub record CarriesNoMore (w : World) (e : Assignment) (f : Formula) : Type 0 whe
       IsTrue (anywhere is_disjunctive f) ⊎ IsTrue (anywhere is_exists f)
   pub equality : IsTrue (anywhere is_equal (expanded w e f)) → IsTrue (anywhere is_equal f)
   pub numeric : IsTrue (anywhere is_compare (expanded w e f)) → IsTrue (anywhere is_compare f)
-
-abbrev pub FormulasCarry : Type 0
-FormulasCarry = (w : World) (e : Assignment) (f : Formula) → CarriesNoMore w e f
-
--- of a problem without constraints, only what the row `quantifiers` of the compiler table grants
-abbrev pub ProblemsCarry : Type 0
-ProblemsCarry = (p : Parts) → carries p TrajectoryConstraints ≡ false →
-    IsSubset (carries (problem_expanded p)) (row_result Quantifiers (carries p))
-
--- ---- substitution
 
 -- a formula with objects in the place of variables has the nodes of the formula
 pub record HasSameNodes (r : Replacement) (f : Formula) : Type 0 where
@@ -55,15 +35,3 @@ pub record IsSameRow (r : Replacement) (row : Row) : Type 0 where
   pub scaling : is_scale (replaced_effect_row r row).effect ≡ is_scale row.effect
   pub undefining : is_undefine (replaced_effect_row r row).effect ≡ is_undefine row.effect
   pub touching : touches_objects (replaced_effect_row r row).effect ≡ touches_objects row.effect
-
-abbrev pub FormulasKeepNodes : Type 0
-FormulasKeepNodes = (r : Replacement) (f : Formula) → HasSameNodes r f
-
-abbrev pub RowsStaySame : Type 0
-RowsStaySame = (r : Replacement) (row : Row) → IsSameRow r row
-
--- rows of an instance at typed arguments meet only where rows of the action do
-abbrev pub InstancesMeet : Type 0
-InstancesMeet = (p : Parts) → IsWellFormed p → (name : Name) (a : Action) (args : List Name) → IsAction p a →
-    Member args (tuples (world p) a.params) →
-    IsTrue (has_meeting_rows p (instance name a args)) → IsTrue (has_meeting_rows p a)
