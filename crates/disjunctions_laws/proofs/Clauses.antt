@@ -14,7 +14,7 @@ use Rattle.up_tree.specs.Simplify.{simplified, knows_nothing, is_false_formula, 
 use Rattle.up_tree.specs.WellFormed.{IsFormula}
 use Rattle.up_tree.proofs.Nodes.{True-And}
 use Rattle.up_kind.specs.Carried.{anywhere, in_row, is_disjunctive, is_equal, is_exists, is_forall, is_compare}
-use Rattle.semantics_laws.specs.Laws.{SameTruth}
+use Rattle.semantics_laws.specs.SameTruth.{SameTruth}
 use Rattle.condition_laws.specs.Assigned.{IsOfScope}
 use Rattle.condition_laws.specs.Carrying.{Has, NoMore}
 use Rattle.condition_laws.specs.Guards.{KeepsGuards}

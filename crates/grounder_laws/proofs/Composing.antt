@@ -33,7 +33,7 @@ use Rattle.step_laws.proofs.Together.{two_compile}
 use Rattle.compiling_laws.proofs.Lists.{false_true}
 use Rattle.compiling_laws.specs.Forms.{symbols}
 use Rattle.finishing_laws.specs.Finished.{finished, themselves}
-use Rattle.finishing_laws.specs.Laws.{rewritten}
+use Rattle.finishing_laws.specs.Rewritten.{rewritten}
 use Rattle.finishing_laws.proofs.Finishing.{finish_compiles}
 use Rattle.finishing_laws.proofs.Left.{left_new, left_entries, news_themselves}
 use Rattle.grounder_laws.specs.Grounder.{static, Grounded, instance_by, ground_action, grounded, entry_of_instance, instantiated, lighter, simple_instances, grounder}

@@ -19,7 +19,7 @@ use Rattle.condition_laws.specs.Oracles.{IsUnchanged, IsChanged}
 use Rattle.condition_laws.proofs.Simplifying.{initial_tells}
 use Rattle.condition_laws.proofs.Acting.{dropped_are_not_taken}
 use Rattle.condition_laws.proofs.Running.{unchanged_next, itself}
-use Rattle.expansion_laws.specs.Laws.{SameDoing}
+use Rattle.expansion_laws.specs.SameDoing.{SameDoing}
 use Rattle.expansion_laws.proofs.Substituting.{actions_substitute}
 use Rattle.expansion_laws.proofs.Typed.{arguments_typed}
 use Rattle.expansion_laws.proofs.Unchanged.{same_effect}

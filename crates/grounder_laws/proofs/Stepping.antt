@@ -16,9 +16,9 @@ use Rattle.up_tree.specs.Changes.{changed}
 use Rattle.up_tree.specs.Plans.{metric_at}
 use Rattle.up_tree.proofs.Apart.{apart}
 use Rattle.up_tree.proofs.Judging.{judged}
-use Rattle.semantics_laws.specs.Laws.{SameTruth}
+use Rattle.semantics_laws.specs.SameTruth.{SameTruth}
 use Rattle.condition_laws.specs.Oracles.{IsUnchanged}
-use Rattle.condition_laws.specs.Laws.{IsTakenWith}
+use Rattle.condition_laws.specs.Taken.{IsTakenWith}
 use Rattle.condition_laws.proofs.Acting.{simple_actions_are_taken}
 use Rattle.condition_laws.proofs.Assigning.{is_assigned}
 use Rattle.condition_laws.proofs.Simplifying.{of_never, simplified_keeps, initial_tells}

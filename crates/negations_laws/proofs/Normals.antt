@@ -32,7 +32,7 @@ use Rattle.up_kind.specs.Features.{IsSubset, is_in, either}
 use Rattle.up_kind.specs.Carried.{anywhere, carries, conditions, some_condition, is_not, is_disjunctive, is_equal, is_exists, is_forall, is_compare, is_numeric, is_scale, is_undefine, touches_objects, gives_an_object, is_total}
 use Rattle.up_kind.specs.Meeting.{has_meeting_rows}
 use Rattle.up_compiler.specs.Table.{only_if}
-use Rattle.semantics_laws.specs.Laws.{SameTruth}
+use Rattle.semantics_laws.specs.SameTruth.{SameTruth}
 use Rattle.semantics_laws.proofs.Same.{computed}
 use Rattle.condition_laws.specs.Guards.{IsRowOf}
 use Rattle.condition_laws.specs.Problems.{DeclaresTheSame}
@@ -41,7 +41,7 @@ use Rattle.condition_laws.proofs.Shaping.{normal_is_formed}
 use Rattle.condition_laws.proofs.Keeping.{normals_carry}
 use Rattle.condition_laws.proofs.Guarding.{normal_keeps_guards, guarded_dont_meet}
 use Rattle.condition_laws.proofs.Declaring.{formulas_are_of_declared, actions_are_of_declared}
-use Rattle.expansion_laws.specs.Laws.{SameOutcomes, SameStep}
+use Rattle.expansion_laws.specs.SameDoing.{SameOutcomes, SameStep}
 use Rattle.expansion_laws.proofs.Doing.{by_path, after, turned, same_doing}
 use Rattle.expansion_laws.proofs.Steps.{steps_follow}
 use Rattle.step_laws.proofs.Splitting.{find_map}

@@ -12,7 +12,7 @@ use Rattle.up_tree.specs.Plans.{metric_at}
 use Rattle.up_tree.specs.WellFormed.{OnMetric}
 use Rattle.semantics_laws.proofs.Agreeing.{same_number}
 use Rattle.condition_laws.specs.Shapes.{IsNormal}
-use Rattle.semantics_laws.specs.Laws.{SameTruth}
+use Rattle.semantics_laws.specs.SameTruth.{SameTruth}
 use Rattle.semantics_laws.proofs.Same.{same_truth}
 use Rattle.expansion_forms.proofs.Covering.{covers_itself, all_objects}
 use Rattle.step_laws.specs.StepLaw.{IsGoal}

@@ -31,9 +31,9 @@ use Rattle.up_compiler.specs.declared.back.Target.TheVariants.{Keep}
 use Rattle.up_compiler.specs.Table.{admits}
 use Rattle.up_eval.proofs.Stays.{next_stays}
 use Rattle.up_eval.proofs.Initial.{init_is_of}
-use Rattle.semantics_laws.specs.Laws.{SameTruth}
+use Rattle.semantics_laws.specs.SameTruth.{SameTruth}
 use Rattle.semantics_laws.proofs.Agreeing.{same_atom}
-use Rattle.condition_laws.specs.Laws.{IsTakenWith}
+use Rattle.condition_laws.specs.Taken.{IsTakenWith}
 use Rattle.condition_laws.specs.Oracles.{IsTrueTo}
 use Rattle.condition_laws.proofs.Acting.{simple_actions_are_taken, dropped_are_not_taken}
 use Rattle.condition_laws.proofs.Assigning.{formulas_are_assigned}

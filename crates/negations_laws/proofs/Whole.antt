@@ -37,7 +37,7 @@ use Rattle.step_laws.proofs.Together.{two_compile, weaker}
 use Rattle.compiling_laws.proofs.Lists.{false_true, none_some, some_same, every_from, of_map}
 use Rattle.compiling_laws.specs.Forms.{symbols}
 use Rattle.finishing_laws.specs.Finished.{Goal, goal_rule, finished_by}
-use Rattle.finishing_laws.specs.Laws.{rewritten}
+use Rattle.finishing_laws.specs.Rewritten.{rewritten}
 use Rattle.finishing_laws.proofs.Finishing.{compiled_finish}
 use Rattle.finishing_laws.proofs.Left.{left, left_new, IsLeft, of_left, resolve, entries_found, entries_within}
 use Rattle.finishing_laws.proofs.Rewritten.{rewritten_news}

@@ -21,7 +21,7 @@ use Rattle.up_tree.specs.Faults.{CanTake, IsNext}
 use Rattle.up_tree.specs.WellFormed.{IsFormula, IsPlain, IsAction, IsWellFormed}
 use Rattle.up_tree.proofs.Nodes.{True-And}
 use Rattle.up_tree.proofs.States.{contains-changed}
-use Rattle.semantics_laws.specs.Laws.{SameTruth}
+use Rattle.semantics_laws.specs.SameTruth.{SameTruth}
 use Rattle.semantics_laws.specs.Symbols.{Symbol, predicate, target, FormulaNames, ActionNames, AgreeOn}
 use Rattle.semantics_laws.proofs.Agreeing.{same_judged}
 use Rattle.semantics_laws.proofs.Framing.{none_there, added_apart, deleted_apart, made_apart}

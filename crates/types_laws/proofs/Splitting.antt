@@ -14,7 +14,7 @@ use Rattle.up_tree.specs.Instances.{firing}
 use Rattle.up_tree.specs.Plans.{metric_at}
 use Rattle.up_tree.specs.WellFormed.{IsWellFormed, IsAction}
 use Rattle.semantics_laws.specs.Symbols.{FormulaNames, ExprNames}
-use Rattle.semantics_laws.specs.Laws.{SameTruth}
+use Rattle.semantics_laws.specs.SameTruth.{SameTruth}
 use Rattle.semantics_laws.proofs.Agreeing.{same_judged, same_number}
 use Rattle.semantics_laws.proofs.Same.{same_truth}
 use Rattle.semantics_laws.proofs.Stepping.{same_faults}
