@@ -39,7 +39,7 @@ use Rattle.trajectory_laws.specs.Trajectory.{Watch, always, sometime, at_most_on
 use Rattle.trajectory_laws.specs.Memory.{Memory, is_set, remembered, goes_on, ends, advanced}
 use Rattle.trajectory_laws.proofs.Kept.{told}
 use Rattle.trajectory_laws.proofs.Told.{Sure, plain_sure, no_scope, closed_same}
-use Rattle.trajectory_laws.proofs.Renamed.{AreNew, Within, IsStill, new_names_keep}
+use Rattle.trajectory_laws.proofs.NewNames.{AreNew, Within, IsStill, new_names_keep}
 use Rattle.trajectory_laws.proofs.Adding.{filter_map-append, any-append, Marks, Apart, marked, firing_is, taken_from, taken_with, next_agrees}
 use Rattle.trajectory_laws.proofs.Watching.{Tells, AreTold, may_go_on, may_end, rows_sure, rows_bare, rows_mark, same_monitors, hit, own_added, own_deleted, memory_after}
 use Rattle.trajectory_laws.proofs.Declared.{formula_declared, action_declared}

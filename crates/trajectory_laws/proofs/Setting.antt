@@ -26,7 +26,8 @@ use Rattle.finishing_laws.proofs.Unreached.{predicates_of}
 use Rattle.trajectory_laws.specs.Variables.{bound, action_variables, constraint_variables, names, renamings}
 use Rattle.trajectory_laws.specs.Trajectory.{instances_of, constraint_instances, Watch, always, sometime, at_most_once, sometime_after, sometime_before, monitors, watched, all_watched, watches, watched_formulas, all_constraint_variables}
 use Rattle.trajectory_laws.proofs.Kept.{rule_of}
-use Rattle.trajectory_laws.proofs.Renamed.{AreNew, Within, bound-replaced}
+use Rattle.trajectory_laws.proofs.Renamed.{bound-replaced}
+use Rattle.trajectory_laws.proofs.NewNames.{AreNew, Within}
 use Rattle.trajectory_laws.proofs.Running.{IsSetting}
 
 -- ---- the instances watch the rules
