@@ -30,7 +30,8 @@ use Rattle.condition_laws.proofs.Keeping.{normals_carry, clauses_carry, literals
 use Rattle.condition_laws.proofs.Shaping.{normal_is_formed, clauses_are_formed, simplified_is_formed}
 use Rattle.condition_laws.proofs.Simplifying.{simplified_keeps}
 use Rattle.condition_laws.proofs.Staying.{simplified_is_normal, simplified_is_free}
-use Rattle.compiling_laws.proofs.Lists.{not_true, any_true, every_at, member_map, of_map, member_filter, of_filter}
+use Rattle.compiling_laws.proofs.Lists.{not_true, any_true, member_map, of_map, member_filter, of_filter}
+use Rattle.step_laws.proofs.Lists.{every_at}
 use Rattle.compiling_laws.proofs.Scopes.{formula-And}
 use Rattle.compiling_laws.proofs.Taking.{never_true}
 use Rattle.disjunctions_laws.specs.Disjunctions.{clause_formula, clause_formulas}

@@ -22,7 +22,8 @@ use Rattle.condition_laws.proofs.Running.{agree_over, itself}
 use Rattle.step_laws.specs.Naming.{Stands, entry_of, new_names}
 use Rattle.step_laws.specs.StepLaw.{IsGoal}
 use Rattle.step_laws.specs.SplitLaw.{CanTakeBy, next_by}
-use Rattle.compiling_laws.proofs.Lists.{false_true, every_at, of_map, member_map, member_left, length-map}
+use Rattle.compiling_laws.proofs.Lists.{false_true, of_map, member_map, member_left, length-map}
+use Rattle.step_laws.proofs.Lists.{every_at}
 use Rattle.compiling_laws.proofs.Names.{fresh_is_new, differ_append}
 use Rattle.compiling_laws.specs.Forms.{symbols}
 use Rattle.finishing_laws.proofs.Unreached.{predicates_of, changed_among, holds_among}

@@ -32,7 +32,7 @@ use Rattle.expansion_forms.proofs.Terms.{effect_well}
 use Rattle.step_laws.specs.StepLaw.{IsGoal, StepLaw}
 use Rattle.step_laws.specs.SplitLaw.{CanTakeBy, next_by}
 use Rattle.step_laws.proofs.Splitting.{find_member}
-use Rattle.compiling_laws.proofs.Lists.{every_at}
+use Rattle.step_laws.proofs.Lists.{every_at}
 use Rattle.grounder_laws.specs.Grounder.{static, Grounded, instance_by, ground_action, is_kept, made_names, grounded, instantiated}
 use Rattle.grounder_laws.specs.Related.{AreSame}
 use Rattle.grounder_laws.proofs.Standing.{Stand, stand_gives_step}

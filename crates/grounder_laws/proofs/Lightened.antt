@@ -32,7 +32,8 @@ use Rattle.step_laws.proofs.Splitting.{split_law}
 use Rattle.step_laws.proofs.Free.{same_plans}
 use Rattle.compiling_laws.proofs.Entries.{rows_from, names_from, fits_from, leads_from}
 use Rattle.compiling_laws.proofs.Forms.{every_as, formula_over, variables_over, rule_over, fact_over, number_fact_over, value_fact_over, metric_over, constraint_over}
-use Rattle.compiling_laws.proofs.Lists.{every_at, every_from, of_filter}
+use Rattle.compiling_laws.proofs.Lists.{of_filter}
+use Rattle.step_laws.proofs.Lists.{every_at, every_from}
 use Rattle.finishing_laws.specs.Rewritten.{rewritten}
 use Rattle.grounder_laws.specs.Grounder.{is_left_out, lighter, lightened}
 use Rattle.grounder_laws.proofs.Kind.{any_flat, conditions_of, in_action}

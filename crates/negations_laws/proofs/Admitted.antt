@@ -14,7 +14,8 @@ use Rattle.up_kind.specs.Meeting.{has_meeting_rows}
 use Rattle.up_compiler.specs.declared.id.CompilerId.TheVariants.{Negations}
 use Rattle.up_compiler.specs.Table.{admits, only_if}
 use Rattle.condition_laws.specs.Shapes.{IsNormal}
-use Rattle.compiling_laws.proofs.Lists.{none_there, and_true, not_true, not_false, any_false, every_from}
+use Rattle.compiling_laws.proofs.Lists.{none_there, and_true, not_true, not_false, any_false}
+use Rattle.step_laws.proofs.Lists.{every_from}
 use Rattle.negations_laws.specs.Kinds.{normal_kind}
 use Rattle.negations_laws.specs.Twins.{main_conditions}
 use Rattle.negations_laws.proofs.Doing.{AreAlways}

@@ -21,7 +21,8 @@ use Rattle.up_tree.specs.Simplify.{knows_nothing, false_formula, is_false_formul
 use Rattle.up_tree.specs.WellFormed.{IsWellFormed, IsAction}
 use Rattle.up_kind.specs.Carried.{anywhere, is_equal, type_tuples}
 use Rattle.semantics_laws.specs.Symbols.{predicate, FormulaNames, MembersName}
-use Rattle.compiling_laws.proofs.Lists.{false_true, none_some, some_same, any_true, any_from, every_at, member_left, member_map, of_map, of_filter_map, length-map}
+use Rattle.compiling_laws.proofs.Lists.{false_true, none_some, some_same, any_true, any_from, member_left, member_map, of_map, of_filter_map, length-map}
+use Rattle.step_laws.proofs.Lists.{every_at}
 use Rattle.compiling_laws.specs.Forms.{symbols}
 use Rattle.finishing_laws.specs.Finished.{Goal}
 use Rattle.negations_laws.specs.Twins.{denies, tells_different, main_conditions, stands_in, symbol_names, twin_names, twins_of, twins_in, differ_in, words, is_initial, fact, twin_atoms, different_pairs, differ_atoms, new_atoms}

@@ -47,8 +47,9 @@ use Rattle.expansion_laws.proofs.Steps.{steps_follow}
 use Rattle.step_laws.proofs.Splitting.{find_map}
 use Rattle.same_plans.specs.SamePlans.{MetricValue}
 use Rattle.compiling_laws.proofs.Forms.{every_as, fact_over, number_fact_over, value_fact_over, metric_over, constraint_over}
-use Rattle.compiling_laws.proofs.Lists.{false_true, any_true, any_from, every_at, every_from, member_left, member_right, member_either, of_map, member_flat, of_flat}
-use Rattle.compiling_laws.proofs.Otherwise.{rows_meet}
+use Rattle.compiling_laws.proofs.Lists.{false_true, any_true, any_from, member_left, member_right, member_either, of_map, member_flat, of_flat}
+use Rattle.step_laws.proofs.Lists.{every_at, every_from}
+use Rattle.condition_laws.proofs.Otherwise.{rows_meet}
 use Rattle.finishing_laws.proofs.Rewritten.{rewritten_compiles}
 use Rattle.negations_laws.specs.Kinds.{normal_kind}
 use Rattle.negations_laws.specs.Negations.{normal_action, normal_form}

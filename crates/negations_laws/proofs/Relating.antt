@@ -46,7 +46,8 @@ use Rattle.step_laws.specs.Naming.{Stands, entry_of}
 use Rattle.step_laws.specs.SplitLaw.{CanTakeBy, next_by, SplitLaw}
 use Rattle.step_laws.specs.StepLaw.{IsGoal, StepLaw}
 use Rattle.step_laws.proofs.Splitting.{find_member, split_law}
-use Rattle.compiling_laws.proofs.Lists.{false_true, none_some, some_same, every_at, every_from, member_left, member_right, member_map, member_filter_map, of_filter_map}
+use Rattle.compiling_laws.proofs.Lists.{false_true, none_some, some_same, member_left, member_right, member_map, member_filter_map, of_filter_map}
+use Rattle.step_laws.proofs.Lists.{every_at, every_from}
 use Rattle.compiling_laws.specs.Forms.{symbols}
 use Rattle.finishing_laws.specs.Finished.{Goal}
 use Rattle.negations_laws.specs.Twins.{Words, words, positive_action, twin_pairs, twinned}

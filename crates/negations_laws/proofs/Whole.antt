@@ -34,7 +34,8 @@ use Rattle.condition_laws.proofs.Stepping.{nothing_is_initial}
 use Rattle.step_laws.specs.Naming.{Stands, entry_of, Made}
 use Rattle.step_laws.specs.Compiled.{IsCompiled, IsCompilation, Owes}
 use Rattle.step_laws.proofs.Together.{two_compile, weaker}
-use Rattle.compiling_laws.proofs.Lists.{false_true, none_some, some_same, every_from, of_map}
+use Rattle.compiling_laws.proofs.Lists.{false_true, none_some, some_same, of_map}
+use Rattle.step_laws.proofs.Lists.{every_from}
 use Rattle.compiling_laws.specs.Forms.{symbols}
 use Rattle.finishing_laws.specs.Finished.{Goal, goal_rule, finished_by}
 use Rattle.finishing_laws.specs.Rewritten.{rewritten}
@@ -49,7 +50,7 @@ use Rattle.negations_laws.proofs.Admitted.{IsReady, admits_normal, all_always}
 use Rattle.negations_laws.proofs.Doing.{AreAlways}
 use Rattle.compiling_laws.specs.Same.{same_formula, same_row}
 use Rattle.compiling_laws.proofs.Same.{same_decides}
-use Rattle.condition_laws.proofs.Carrying.{simple_actions_carry}
+use Rattle.condition_laws.proofs.ActionFeatures.{simple_actions_carry}
 use Rattle.negations_laws.proofs.Twinned.{twinned_is_compiled}
 
 -- ---- the entries stay

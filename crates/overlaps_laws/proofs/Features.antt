@@ -139,4 +139,4 @@ module _ (p : Parts) (ok : IsAdmitted p) (rows_of : (pair : Stands) → IsVarian
       let is : IsVariant p pair.0 = pair_is p pair.0 pair.1 in
       ap (has_meeting_rows q) (pair.2 ∙ is.but_name)
       ∙ has_same p q.actions p.goal is.variant pair.0.new.name
-      ∙ variants_dont_meet p ok.no_objects pair.0.old (Rattle.compiling_laws.proofs.Lists.every_at (IsSplittable p) p.actions pair.0.old ok.splittable is.member) is.variant is.listed)
+      ∙ variants_dont_meet p ok.no_objects pair.0.old (Rattle.step_laws.proofs.Lists.every_at (IsSplittable p) p.actions pair.0.old ok.splittable is.member) is.variant is.listed)

@@ -25,7 +25,8 @@ use Rattle.expansion_forms.proofs.Problems.{declared_well, more_declares, proble
 use Rattle.expansion_forms.proofs.Terms.{effect_well}
 use Rattle.compiling_laws.specs.Forms.{symbols}
 use Rattle.compiling_laws.proofs.Declared.{more_are_declared}
-use Rattle.compiling_laws.proofs.Lists.{every_at, every_from, member_left, member_right, member_flat}
+use Rattle.compiling_laws.proofs.Lists.{member_left, member_right, member_flat}
+use Rattle.step_laws.proofs.Lists.{every_at, every_from}
 use Rattle.compiling_laws.proofs.More.{fact_stays, numbers_stay, values_stay, metric_stays, gives_stay}
 use Rattle.compiling_laws.proofs.Names.{every_append}
 use Rattle.trajectory_laws.specs.Variables.{names, bound, action_variables, with_new_names}

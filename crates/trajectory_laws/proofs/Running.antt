@@ -32,7 +32,8 @@ use Rattle.step_laws.specs.SplitLaw.{CanTakeBy, next_by}
 use Rattle.step_laws.specs.StepLaw.{IsGoal}
 use Rattle.condition_laws.proofs.Running.{agree_over}
 use Rattle.compiling_laws.proofs.Bare.{AreBare, plain}
-use Rattle.compiling_laws.proofs.Lists.{every_at, member_left, member_right}
+use Rattle.compiling_laws.proofs.Lists.{member_left, member_right}
+use Rattle.step_laws.proofs.Lists.{every_at}
 use Rattle.finishing_laws.proofs.Unreached.{predicates_of, changed_among}
 use Rattle.trajectory_laws.specs.Variables.{bound, action_variables, with_new_names}
 use Rattle.trajectory_laws.specs.Trajectory.{Watch, always, sometime, at_most_once, sometime_after, sometime_before, monitors, to_precondition, to_rows, to_goal, watched_formulas, watch_by, action_renamings, watched_action}

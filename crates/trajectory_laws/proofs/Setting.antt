@@ -20,7 +20,8 @@ use Rattle.expansion_forms.proofs.Covering.{covers_arguments, all_objects}
 use Rattle.expansion_forms.proofs.Formulas.{replaced_well}
 use Rattle.expansion_forms.proofs.Plain.{plain_stays}
 use Rattle.compiling_laws.specs.Forms.{symbols}
-use Rattle.compiling_laws.proofs.Lists.{every_at, every_from, member_left, member_right, member_either, of_flat, of_map, member_flat}
+use Rattle.compiling_laws.proofs.Lists.{member_left, member_right, member_either, of_flat, of_map, member_flat}
+use Rattle.step_laws.proofs.Lists.{every_at, every_from}
 use Rattle.compiling_laws.proofs.Names.{fresh_is_new, fresh_is_name, every_append}
 use Rattle.finishing_laws.proofs.Unreached.{predicates_of}
 use Rattle.trajectory_laws.specs.Variables.{bound, action_variables, constraint_variables, names, renamings}

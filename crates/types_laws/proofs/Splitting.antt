@@ -21,7 +21,8 @@ use Rattle.semantics_laws.proofs.Stepping.{same_faults}
 use Rattle.step_laws.specs.Naming.{Stands}
 use Rattle.step_laws.specs.StepLaw.{IsGoal}
 use Rattle.step_laws.specs.SplitLaw.{CanTakeBy, next_by, SplitLaw}
-use Rattle.compiling_laws.proofs.Lists.{every_at, member_map, of_map}
+use Rattle.compiling_laws.proofs.Lists.{member_map, of_map}
+use Rattle.step_laws.proofs.Lists.{every_at}
 use Rattle.expansion_laws.proofs.Lists.{map_of_map}
 use Rattle.expansion_laws.proofs.Truths.{true_together}
 use Rattle.types_laws.specs.Guards.{guards, guarded}
