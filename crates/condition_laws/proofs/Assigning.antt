@@ -15,7 +15,6 @@ use Rattle.semantics_laws.proofs.Lists.{each_as, each_map, each_flat_map, each_m
 use Rattle.condition_laws.specs.Assigned.{IsOfScope, HasObject, IsAssigned, AreAssigned, IsActionAssigned}
 use Rattle.up_tree.specs.declared.action.Action.{Action}
 
-
 pub at_member : {X : Type 0} (P : X → Type 0) (xs : List X) → Every P xs → (x : X) → Member x xs → P x
 at_member P [] h x m = absurd m
 at_member P (y ∷ ys) h x (inl e) = subst P (sym e) h.0

@@ -25,7 +25,8 @@ use Rattle.condition_laws.specs.Guards.{are_apart, KeepsGuards, IsRowOf}
 use Rattle.condition_laws.specs.Carrying.{IsSimpleRow, ActionCarries}
 use Rattle.condition_laws.proofs.Holding.{left, right, of_two, former, latter, none, any_of_both, in_one}
 use Rattle.condition_laws.proofs.Clauses.{each_of_both}
-use Rattle.condition_laws.proofs.Carrying.{not_never, not_constant, not_never_by, simple_actions_carry}
+use Rattle.condition_laws.proofs.Carrying.{not_never, not_constant, not_never_by}
+use Rattle.condition_laws.proofs.ActionFeatures.{simple_actions_carry}
 use Rattle.condition_laws.proofs.Acting.{of_simple, of_simple_pre}
 
 both_true : (x y : Bool) → (x && y) ≡ true → (x ≡ true) × (y ≡ true)

@@ -1,14 +1,10 @@
 -- A problem that is simplified has the same plans and no more features.
-use Rattle.std.proofs.Common.{◌≡◌, ◌↔◌, Bool, true, false, ◌||◌, ◌&&◌, not as flip, true≢false, List, [], ◌∷◌, ◌++◌, map, zip, Option, Some, None, refl, ap, sym, ◌∙◌, ⊎_elim}
-use Rattle.std.specs.List.{list_any, list_all, flat_map, filter_map, cons_option}
-use Rattle.up_text.specs.Names.{same_name}
+use Rattle.std.proofs.Common.{◌≡◌, ◌↔◌, Bool, true, false, ◌||◌, ◌&&◌, not as flip, true≢false, List, [], ◌∷◌, map, Option, Some, None, refl, ap, sym, ◌∙◌, ⊎_elim}
+use Rattle.std.specs.List.{list_any, flat_map, filter_map, cons_option}
 use Rattle.up_text.specs.Lists.{Every}
-use Rattle.up_tree.specs.declared.term.Term.{Term, Var, Object, Fluent'}
 use Rattle.up_tree.specs.declared.term.Typed.{Typed}
 use Rattle.up_tree.specs.declared.formula.Formula.{Formula}
 use Rattle.up_tree.specs.declared.action.Effect.{Effect}
-use Rattle.up_tree.specs.declared.action.Effect.TheVariants as effect
-use Rattle.up_tree.specs.declared.action.Row.{Row}
 use Rattle.up_tree.specs.declared.action.Action.{Action}
 use Rattle.up_tree.specs.declared.problem.Constraint.{Constraint}
 use Rattle.up_tree.specs.declared.problem.Rule.{Rule}
@@ -20,11 +16,11 @@ use Rattle.up_tree.specs.Objects.{World, world, Assignment, unassigned, assign}
 use Rattle.up_tree.specs.State.{State, init}
 use Rattle.up_tree.specs.Plans.{RunsFrom, IsRun, OfLast, Keeps, KeepsRule, Plans, MetricOf}
 use Rattle.up_tree.specs.Simplify.{Oracle, is_empty, is_true_formula, is_false_formula, simplified, simple_action}
-use Rattle.up_tree.specs.WellFormed.{IsWellFormed, term_type, formulas_of}
+use Rattle.up_tree.specs.WellFormed.{IsWellFormed, formulas_of}
 use Rattle.up_kind.specs.declared.feature.Feature.{Feature}
 use Rattle.up_kind.specs.declared.feature.Feature.TheVariants.{FlatTyping, HierarchicalTyping, ActionParameters, NegativeConditions, DisjunctiveConditions, Equalities, ExistentialConditions, UniversalConditions, ConditionalEffects, ForallEffects, ObjectFluents, NumericFluents, NumericConditions, NumericEffects, ScaleEffects, Metric, TrajectoryConstraints, EffectOverlap, ObjectTermsUnderForall, PartialFluents}
 use Rattle.up_kind.specs.Carried.{anywhere, some_condition, some_row, is_not, is_disjunctive, is_equal, is_exists, is_forall, is_compare, is_scale, is_numeric, is_undefine, touches_objects, gives_an_object, is_total, carries}
-use Rattle.up_kind.specs.Meeting.{share, is_guarded, meet, has_meeting_rows}
+use Rattle.up_kind.specs.Meeting.{has_meeting_rows}
 use Rattle.semantics_laws.specs.SameTruth.{SameTruth}
 use Rattle.condition_laws.specs.Oracles.{IsInitial, IsUnchanged}
 use Rattle.condition_laws.specs.Carrying.{IsSimpleRow, ActionCarries, SimplifiedCarries}
@@ -34,8 +30,10 @@ use Rattle.condition_laws.proofs.Holding.{left, right, of_two, any_of_both}
 use Rattle.condition_laws.proofs.Simplifying.{simplified_keeps, initial_tells}
 use Rattle.condition_laws.proofs.Assigning.{is_assigned}
 use Rattle.condition_laws.proofs.Running.{runs_leave_unchanged}
-use Rattle.condition_laws.proofs.Carrying.{simplified_carry, simple_actions_carry}
-use Rattle.condition_laws.proofs.Guarding.{agreeing, meeting, meet-is, any_of, simple_actions_dont_meet}
+use Rattle.condition_laws.proofs.Carrying.{simplified_carry}
+use Rattle.condition_laws.proofs.ActionFeatures.{simple_actions_carry}
+use Rattle.condition_laws.proofs.Otherwise.{rows_meet}
+use Rattle.condition_laws.proofs.Guarding.{any_of, simple_actions_dont_meet}
 use Rattle.condition_laws.proofs.Stepping.{simple_actions_run}
 use Rattle.up_frac.specs.Fraction.{Fraction}
 use Rattle.std.specs.Prelude.{IsTrue}
@@ -151,41 +149,6 @@ module _ (oracle : Oracle) (p : Parts) where
   abbrev other : Parts
   other = simple_problem oracle p
 
-  type_stays : (scope : List Typed) (t : Term) → term_type other scope t ≡ term_type p scope t
-  type_stays scope (Var v) = refl
-  type_stays scope (Object o) = refl
-  type_stays scope (Fluent' f n ts) = refl
-
-  share_stays : (scope others : List Typed) (s t : Term) → share other scope s others t ≡ share p scope s others t
-  share_stays scope others (Object o) (Object q) = refl
-  share_stays scope others (Object o) (Var x) = refl
-  share_stays scope others (Object o) (Fluent' g n us) = refl
-  share_stays scope others (Var v) (Object q) = refl
-  share_stays scope others (Var v) (Var x) = refl
-  share_stays scope others (Var v) (Fluent' g n us) = refl
-  share_stays scope others (Fluent' f n ts) (Object q) = refl
-  share_stays scope others (Fluent' f n ts) (Var x) = refl
-  share_stays scope others (Fluent' f n ts) (Fluent' g m us) = refl
-
-  meeting_stays : (pre : Formula) (scope others : List Typed) (d r : Effect) → meeting other pre scope others d r ≡ meeting p pre scope others d r
-  unfolding meeting agreeing
-  meeting_stays pre scope others (effect.Delete name ss) (effect.Add more ts) =
-      λ i. same_name name more && list_all (λ pair. flip (is_guarded pre pair.0 pair.1) && share_stays scope others pair.0 pair.1 i) (zip ss ts)
-  meeting_stays pre scope others (effect.Delete name ss) (effect.Delete more ts) = refl
-  meeting_stays pre scope others (effect.Delete name ss) (effect.Number change more ts x) = refl
-  meeting_stays pre scope others (effect.Delete name ss) (effect.Object more ts t) = refl
-  meeting_stays pre scope others (effect.Delete name ss) (effect.Undefine more ts) = refl
-  meeting_stays pre scope others (effect.Add name ss) r = refl
-  meeting_stays pre scope others (effect.Number change name ss x) r = refl
-  meeting_stays pre scope others (effect.Object name ss t) r = refl
-  meeting_stays pre scope others (effect.Undefine name ss) r = refl
-
-  meet_stays : (a : Action) (d r : Row) → meet other a d r ≡ meet p a d r
-  meet_stays a d r = meet-is other a d r ∙ meeting_stays a.pre (d.vars ++ a.params) (r.vars ++ a.params) d.effect r.effect ∙ sym (meet-is p a d r)
-
-  rows_meet : (a : Action) → has_meeting_rows other a ≡ has_meeting_rows p a
-  rows_meet a = λ i. list_any (λ d. list_any (λ r. meet_stays a d r i) a.rows) a.rows
-
   module _ (possible : is_false_formula (simplified (world p) oracle p.goal) ≡ false) where
     in_all : (t : Formula → Bool) → Before (world p) oracle (λ a. list_any (anywhere t) (a.pre ∷ map (λ r. r.when) a.rows)) →
         (anywhere t (simplified (world p) oracle p.goal) ≡ true → anywhere t p.goal ≡ true) → some_condition other t ≡ true → some_condition p t ≡ true
@@ -238,7 +201,7 @@ module _ (oracle : Oracle) (p : Parts) where
     features TrajectoryConstraints h = h
     features EffectOverlap h =
         in_actions (world p) oracle (has_meeting_rows p) (λ a b at k. simple_actions_dont_meet p (world p) oracle a b at k) p.actions
-        ((λ i. list_any (λ a. sym (rows_meet a) i) (filter_map (simple_action (world p) oracle) p.actions)) ∙ h)
+        ((λ i. list_any (λ a. sym (rows_meet p p.constants p.predicates p.atoms other.actions other.goal p.constraints a) i) (filter_map (simple_action (world p) oracle) p.actions)) ∙ h)
     features ObjectTermsUnderForall h = of_rows (λ vars e. flip (is_empty vars) && touches_objects e) h
     features PartialFluents h =
         ⊎_elim (λ e. left (list_any (λ d. gives_an_object d && flip (is_total p d)) p.functions) _ (sym (total_stays p.functions) ∙ e))

@@ -13,7 +13,6 @@ use Rattle.semantics_laws.specs.Symbols.{Symbol, StepChanges, target, AgreeOn}
 use Rattle.semantics_laws.proofs.Framing.{rest_stays}
 use Rattle.condition_laws.specs.Oracles.{IsChanged, IsUnchanged}
 
-
 -- an action that is found is one of the list
 of_found : (P : Action → Type 0) (actions : List Action) (name : Name) → IsSomeAnd (find (λ a. same_name a.name name) actions) P → Somewhere P actions
 of_found P [] name h = absurd h

@@ -31,22 +31,3 @@ pub record DeclaresTheSame (p q : Parts) : Type 0 where
   pub objects : p.objects ≡ q.objects
   pub predicates : p.predicates ≡ q.predicates
   pub functions : p.functions ≡ q.functions
-
--- what `p` declares, with all else of `q`
-abbrev pub declared_by : Parts → Parts → Parts
-declared_by p q = record {
-  domain = q.domain;
-  name = q.name;
-  types = p.types;
-  constants = p.constants;
-  objects = p.objects;
-  predicates = p.predicates;
-  functions = p.functions;
-  atoms = q.atoms;
-  numbers = q.numbers;
-  values = q.values;
-  actions = q.actions;
-  goal = q.goal;
-  metric = q.metric;
-  constraints = q.constraints;
-}

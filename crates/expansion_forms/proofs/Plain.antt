@@ -13,7 +13,6 @@ use Rattle.semantics_laws.specs.Replaced.{under, in_place, replaced_term, replac
 use Rattle.semantics_laws.proofs.Lists.{each_map, each_member}
 use Rattle.expansion_laws.specs.Expanded.{expanded, all_expanded}
 
-
 no_fluent : (e : Assignment) (ts : List Term) → HasNoFluent ts → HasNoFluent (map (replaced_term e) ts)
 unfolding replaced_term
 no_fluent e [] h = h

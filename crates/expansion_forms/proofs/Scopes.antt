@@ -24,7 +24,6 @@ use Rattle.semantics_laws.proofs.Replacing.{Fits, all_fit, assign-is, binds-is}
 use Rattle.expansion_laws.proofs.Truths.{true_together, false_together}
 use Rattle.expansion_forms.specs.Scope.{SameInScope}
 
-
 -- the assignments agree on the scope
 abbrev pub Agree : Assignment → Assignment → List Typed → Type 0
 Agree d e scope = (v : Name) → IsSome (named scope v) → d v ≡ e v

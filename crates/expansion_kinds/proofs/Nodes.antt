@@ -15,7 +15,6 @@ use Rattle.expansion_laws.specs.Substituted.{replaced_effect}
 use Rattle.expansion_kinds.specs.Kept.{HasSameNodes, IsSameRow}
 use Rattle.up_tree.specs.declared.action.Row.{Row}
 
-
 -- a test that asks for the node alone
 abbrev Keeps : (Formula → Bool) → Type 0
 Keeps t = (r : Replacement) (f : Formula) → t (replaced r f) ≡ t f

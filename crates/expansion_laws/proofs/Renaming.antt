@@ -20,7 +20,6 @@ use Rattle.semantics_laws.proofs.Same.{same_truth}
 use Rattle.expansion_laws.specs.Renamed.{new_name, renamed_variables, renamed_term, renamed_row, renamed_expr, renamed, renamed_members, TermLacks, RowLacks, ExprLacks, Lacks, AllLack}
 use Rattle.semantics_laws.specs.SameTruth.{SameTruth}
 
-
 pub test_of : (a b : Name) → (a ≡ b → ⊥) → same_name a b ≡ false
 test_of a b apart = by (same_name a b) refl
   where

@@ -3,7 +3,10 @@ use Rattle.std.specs.Prelude.{◌≡◌, ◌*◌, ◌+◌, ◌&&◌, slice_get, 
 use Rattle.up_text.specs.declared.name.Name.{Name}
 use Rattle.up_text.specs.Lists.{Every, Member}
 use Rattle.up_tree.specs.declared.term.Typed.{Typed}
+use Rattle.up_tree.specs.declared.action.Action.{Action}
 use Rattle.up_tree.specs.Objects.{World, Assignment, assign, unassigned, is_of, objects_of}
+use Rattle.up_tree.specs.State.{State}
+use Rattle.up_tree.specs.Faults.{unknown, arity, argument_type, ActionApplies}
 use Rattle.up_tree.specs.Value.{with_both}
 
 -- an object of each variable's type at its place
@@ -36,6 +39,10 @@ Suits w vars e = Every (λ v. IsSomeAnd (e v.name) (λ o. Member o (objects_of w
 -- each variable has the object at its place of the tuple
 abbrev pub IsOfTuple : List Typed → List Name → Assignment → Type 0
 IsOfTuple vars tuple e = Every (λ v. e v.name ≡ assign vars tuple unassigned v.name) vars
+
+-- no fault of arguments applies
+abbrev pub ArgumentsFit : World → State → Action → List Name → Type 0
+ArgumentsFit w s a args = (¬ ActionApplies w s a args unknown) × (¬ ActionApplies w s a args arity) × (¬ ActionApplies w s a args argument_type)
 
 -- the names of all objects
 abbrev pub object_names : World → List Name

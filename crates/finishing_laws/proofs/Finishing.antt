@@ -39,7 +39,8 @@ use Rattle.step_laws.specs.Naming.{Stands, entry_of, new_actions}
 use Rattle.step_laws.specs.Compiled.{IsCompiled}
 use Rattle.step_laws.proofs.Unchanged.{entries_are, source_compiled}
 use Rattle.step_laws.proofs.Together.{two_compile, weaker}
-use Rattle.compiling_laws.proofs.Lists.{every_from, member_left}
+use Rattle.step_laws.proofs.Lists.{every_from}
+use Rattle.compiling_laws.proofs.Lists.{member_left}
 use Rattle.compiling_laws.proofs.Names.{fresh_is_new, fresh_is_name, new_names_of, every_append}
 use Rattle.compiling_laws.proofs.Entries.{leads_from}
 use Rattle.compiling_laws.proofs.Declared.{more_are_declared}
@@ -161,7 +162,7 @@ module _ (used : List Name) (oracle : Oracle) (p : Parts) (well : IsWellFormed p
 
   -- ---- entries
 
-  differ : Differ (map (λ (a : Action). a.name) acts)
+  pub differ : Differ (map (λ (a : Action). a.name) acts)
   differ = kept_formed.action_names.differ
 
   entries_rows : AreOf acts entries

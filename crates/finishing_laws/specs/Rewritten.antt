@@ -14,7 +14,8 @@ use Rattle.step_laws.specs.Naming.{Stands}
 abbrev pub rewritten : (Action → Action) → List Action → List Stands
 rewritten f actions = map (λ a. record { new = f a; old = a }) actions
 
--- `r` has the actions of `p` rewritten, under their names and with their parameters, and the same plans
+-- `r` has the actions of `p` rewritten, under their names and with their parameters, and the same plans of
+-- the same metric
 pub record IsRewritten (K : FeatureSet) (p r : Parts) (f : Action → Action) : Type 0 where
   pub names : (a : Action) → (f a).name ≡ a.name
   pub params : (a : Action) → (f a).params ≡ a.params
@@ -23,4 +24,4 @@ pub record IsRewritten (K : FeatureSet) (p r : Parts) (f : Action → Action) : 
   pub features : IsSubset (carries r) K
   pub metric : r.metric ≡ p.metric
   pub plans : (plan : Plan) → Plans p plan ↔ Plans r plan
-  pub metrics : (plan : Plan) (v : MetricValue) → MetricOf p plan v ↔ MetricOf r plan v
+  pub metrics : (plan : Plan) → Plans p plan → (v : MetricValue) → MetricOf p plan v ↔ MetricOf r plan v

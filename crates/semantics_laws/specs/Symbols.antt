@@ -1,7 +1,7 @@
 -- The predicates and functions that a tree names, and the states that agree on them.
 use Rattle.std.specs.Prelude.{◌≡◌, ◌⊎◌, ◌↔◌, List, IsSomeAnd}
 use Rattle.up_text.specs.declared.name.Name.{Name}
-use Rattle.up_text.specs.Lists.{Somewhere}
+use Rattle.up_text.specs.Lists.{Somewhere, Member}
 use Rattle.up_tree.specs.declared.term.Term.{Term, Var, Object, Fluent', Row_of-Term, end_of-Term, more_of-Term}
 use Rattle.up_tree.specs.declared.expr.Expr.{Expr, Number, Fluent}
 use Rattle.up_tree.specs.declared.formula.Formula.{Formula, And', Or', Atom, Equal, Compare, Row_of-Formula, end_of-Formula, more_of-Formula}
@@ -93,3 +93,10 @@ pub record AgreeOn (Names : Symbol → Type 0) (s t : State) : Type 0 where
   pub atoms : (p : Name) → Names (predicate p) → (objects : List Name) → Holds s (ground p objects) ↔ Holds t (ground p objects)
   pub numbers : (f : Name) → Names (function f) → (objects : List Name) → number_at s (ground f objects) ≡ number_at t (ground f objects)
   pub values : (f : Name) → Names (function f) → (objects : List Name) → object_at s (ground f objects) ≡ object_at t (ground f objects)
+
+abbrev pub AgreeOnAll : List Symbol → State → State → Type 0
+AgreeOnAll symbols s t = AgreeOn (λ x. Member x symbols) s t
+
+-- what the step's action names is among the symbols
+abbrev pub AreNamed : Parts → Step → List Symbol → Type 0
+AreNamed p step symbols = (x : Symbol) → StepNames p step x → Member x symbols

@@ -1,7 +1,6 @@
 //! Laws of the definitions, each the contract of a function that does nothing.
 ghost use Rattle.std.specs.Prelude.{◌≡◌, List, ◌↔◌};
 ghost use Rattle.up_text.specs.declared.name.Name.{Name};
-ghost use Rattle.up_text.specs.Lists.{Member};
 ghost use Rattle.up_tree.specs.declared.term.Typed.{Typed};
 ghost use Rattle.up_tree.specs.Objects.{Assignment, assign, World};
 ghost use Rattle.up_tree.specs.State.{State};
@@ -10,7 +9,7 @@ ghost use Rattle.up_tree.specs.Faults.{Fault, Applies, IsNext};
 ghost use Rattle.up_tree.specs.declared.problem.Step.{Step};
 ghost use Rattle.semantics_laws.specs.Replaced.{substituted_term, substituted_expr, substituted};
 ghost use Rattle.semantics_laws.specs.SameTruth.{SameTruth};
-ghost use Rattle.semantics_laws.specs.Symbols.{TermNames, AgreeOn, ExprNames, FormulaNames, StepNames, Symbol, StepChanges, ProblemNames};
+ghost use Rattle.semantics_laws.specs.Symbols.{TermNames, AgreeOn, AgreeOnAll, AreNamed, ExprNames, FormulaNames, StepNames, Symbol, StepChanges, ProblemNames};
 ghost use Rattle.semantics_laws.specs.StepsReachGoal.{StepsReachGoal};
 
 use up_tree::{Expr, Formula, Problem, Step, Term};
@@ -36,8 +35,8 @@ pub fn named_parts_decide(_u: &Term, _x: &Expr, _f: &Formula)
 /// agree on it again, and on all else on which the states agreed.
 pub fn steps_depend_on_named_parts(_p: &Problem, _step: &Step)
     ensures faults { (s t : State) → AgreeOn (StepNames _p.now _step.now) s t → (fault : Fault) → Applies _p.now s _step.now fault ↔ Applies _p.now t _step.now fault }
-    ensures next { (s t : State) → AgreeOn (StepNames _p.now _step.now) s t → (next_s next_t : State) → IsNext _p.now s _step.now next_s → IsNext _p.now t _step.now next_t → AgreeOn (StepNames _p.now _step.now) next_s next_t }
-    ensures wider { (s t : State) (symbols : List Symbol) → ((x : Symbol) → StepNames _p.now _step.now x → Member x symbols) → AgreeOn (λ x. Member x symbols) s t → (next_s next_t : State) → IsNext _p.now s _step.now next_s → IsNext _p.now t _step.now next_t → AgreeOn (λ x. Member x symbols) next_s next_t }
+    ensures next { (s t next_s next_t : State) → AgreeOn (StepNames _p.now _step.now) s t → IsNext _p.now s _step.now next_s → IsNext _p.now t _step.now next_t → AgreeOn (StepNames _p.now _step.now) next_s next_t }
+    ensures wider { (symbols : List Symbol) (s t next_s next_t : State) → AreNamed _p.now _step.now symbols → AgreeOnAll symbols s t → IsNext _p.now s _step.now next_s → IsNext _p.now t _step.now next_t → AgreeOnAll symbols next_s next_t }
 {}
 
 /// A step leaves all atoms, numbers and objects as they were but those of predicates and functions that an effect of
