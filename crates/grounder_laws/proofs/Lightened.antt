@@ -26,6 +26,7 @@ use Rattle.condition_laws.proofs.Guarding.{meet-is}
 use Rattle.expansion_laws.proofs.Lists.{of_map, in_map, map_of_map}
 use Rattle.expansion_kinds.proofs.Tests.{any_member, any_there}
 use Rattle.step_laws.specs.Naming.{Stands, entry_of}
+use Rattle.step_laws.specs.Compiled.{IsCompiled}
 use Rattle.step_laws.specs.SplitLaw.{CanTakeBy, next_by, SplitLaw}
 use Rattle.step_laws.specs.StepLaw.{IsGoal}
 use Rattle.step_laws.proofs.Splitting.{split_law}
