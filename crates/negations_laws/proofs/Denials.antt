@@ -43,7 +43,7 @@ pub record IsDenial (t u : Formula → Bool) : Type 0 where
   nots : (f : Formula) → t (not f) ≡ u f
   exists_no : (vars : List Typed) (f : Formula) → t (exists vars f) ≡ false
   forall_no : (vars : List Typed) (f : Formula) → t (forall vars f) ≡ false
-  atoms : (name : Name) (ts : List Term) → t (Atom name ts) ≡ false
+  pub atoms : (name : Name) (ts : List Term) → t (Atom name ts) ≡ false
   equals : (v w : Term) → t (Equal v w) ≡ false
   comparisons : (r : Relation) (a b : Expr) → t (Compare r a b) ≡ false
 

@@ -1,5 +1,5 @@
 -- A problem in normal form is compiled from the problem.
-use Rattle.std.proofs.Common.{◌≡◌, ◌⊎◌, ◌↔◌, Bool, true, false, not as flip, ◌&&◌, ◌||◌, List, [], ◌∷◌, map, take, Option, Some, None, option_map, IsSomeAnd, refl, ap, sym, ◌∙◌, subst, inl, inr, ⊎_elim}
+use Rattle.std.proofs.Common.{◌≡◌, ◌⊎◌, ◌↔◌, Bool, true, false, not as flip, ◌&&◌, ◌||◌, List, [], ◌∷◌, map, take, Option, Some, None, option_map, IsSomeAnd, refl, ap, sym, ◌∙◌, subst, inl, inr, ⊎_elim, IsTrue}
 use Rattle.std.specs.List.{list_any, flat_map}
 use Rattle.up_text.specs.declared.name.Name.{Name}
 use Rattle.up_text.specs.Names.{same_name}
@@ -31,7 +31,7 @@ use Rattle.up_kind.specs.declared.feature.Feature.TheVariants.{FlatTyping, Hiera
 use Rattle.up_kind.specs.Features.{IsSubset, is_in, either}
 use Rattle.up_kind.specs.Carried.{anywhere, carries, conditions, some_condition, is_not, is_disjunctive, is_equal, is_exists, is_forall, is_compare, is_numeric, is_scale, is_undefine, touches_objects, gives_an_object, is_total}
 use Rattle.up_kind.specs.Meeting.{has_meeting_rows}
-use Rattle.up_compiler.specs.Table.{only_if}
+use Rattle.up_compiler.specs.Table.{admits, only_if}
 use Rattle.semantics_laws.specs.SameTruth.{SameTruth}
 use Rattle.semantics_laws.proofs.Same.{computed}
 use Rattle.condition_laws.specs.Guards.{IsRowOf}
@@ -315,5 +315,5 @@ normal_is_compiled p well is =
       features = within_kind p;
       metric = refl;
       plans = plans_stay p (no_constraints p is);
-      metrics = metrics_stay p;
+      metrics = λ plan valid. metrics_stay p plan;
     }) well
