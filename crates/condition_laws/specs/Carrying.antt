@@ -1,4 +1,4 @@
--- Laws that rewriting gains no feature, but those that it is known to gain.
+-- The features that rewriting keeps, and those that it is known to gain.
 use Rattle.std.specs.Prelude.{◌≡◌, ◌⊎◌, Bool, false, not as flip, IsTrue, ◌∷◌, map}
 use Rattle.std.specs.List.{list_any}
 use Rattle.up_text.specs.Lists.{Every, Somewhere}

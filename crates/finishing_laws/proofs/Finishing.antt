@@ -1,9 +1,8 @@
 -- A finished problem is compiled.
-use Rattle.std.proofs.Common.{◌≡◌, Bool, true, false, cond, codes, List, [], ◌∷◌, ◌++◌, map, find, Some, None, IsSomeAnd, refl, ap, sym, ◌∙◌, subst, inl, inr, append-nil}
+use Rattle.std.proofs.Common.{◌≡◌, Bool, true, false, codes, List, [], ◌∷◌, ◌++◌, map, IsSomeAnd, refl, ap, sym, ◌∙◌, subst, inl, inr, append-nil}
 use Rattle.std.specs.Prelude.{if◌then◌else◌}
-use Rattle.std.specs.Cmp.Lexicographic.{bytes_decides}
 use Rattle.up_text.specs.declared.name.Name.{Name}
-use Rattle.up_text.specs.Names.{IsName, same_name, reserved_words}
+use Rattle.up_text.specs.Names.{IsName, reserved_words}
 use Rattle.up_text.specs.Fresh.{fresh_name}
 use Rattle.up_text.specs.Lists.{Every, Member, Differ}
 use Rattle.up_tree.specs.declared.term.Term.{Term, Var}
@@ -43,7 +42,7 @@ use Rattle.step_laws.proofs.Lists.{every_from}
 use Rattle.compiling_laws.proofs.Lists.{member_left}
 use Rattle.compiling_laws.proofs.Names.{fresh_is_new, fresh_is_name, new_names_of, every_append}
 use Rattle.compiling_laws.proofs.Entries.{leads_from}
-use Rattle.compiling_laws.proofs.Declared.{more_are_declared}
+use Rattle.compiling_laws.proofs.Declared.{last_found, more_are_declared}
 use Rattle.compiling_laws.specs.Forms.{symbols}
 use Rattle.compiling_laws.specs.Quieter.{IsQuieter}
 use Rattle.finishing_laws.specs.Finished.{Goal, goal_rule, themselves, finished_by, finished, AreUsed}
@@ -52,16 +51,6 @@ use Rattle.finishing_laws.proofs.Left.{left, simple, news, left_new, news_themse
 use Rattle.finishing_laws.proofs.Unreached.{predicates_of, changed_among, holds_among, never_reached}
 use Rattle.compiling_laws.proofs.Goals.{goal_carries}
 use Rattle.semantics_laws.proofs.Lists.{each_as}
-
--- the last one is found where none before has its name
-found_last : (ds : List Predicate) (d : Predicate) → (¬ Member d.name (map (λ (x : Predicate). x.name) ds)) → find (λ x. same_name x.name d.name) (ds ++ d ∷ []) ≡ Some d
-found_last [] d new = ap (λ b. cond b (Some d) None) ((bytes_decides d.name d.name).1 refl)
-found_last (x ∷ ds) d new = by (same_name x.name d.name) refl (found_last ds d (λ m. new (inr m)))
-  where
-    by : (b : Bool) → same_name x.name d.name ≡ b → find (λ x. same_name x.name d.name) (ds ++ d ∷ []) ≡ Some d
-        → cond b (Some x) (find (λ x. same_name x.name d.name) (ds ++ d ∷ [])) ≡ Some d
-    by true is later = absurd (new (inl (sym ((bytes_decides x.name d.name).0 is))))
-    by false is later = later
 
 -- ---- no state is last
 
@@ -130,7 +119,7 @@ module _ (used : List Name) (oracle : Oracle) (p : Parts) (well : IsWellFormed p
 
   lost_goal : IsFormula lost p.objects [] (Atom name [])
   unfolding IsFormula
-  lost_goal = subst (λ found. IsSomeAnd found (λ (d : Predicate). TermsFit lost p.objects [] [] d.args)) (sym (found_last p.predicates never new_there)) tt
+  lost_goal = subst (λ found. IsSomeAnd found (λ (d : Predicate). TermsFit lost p.objects [] [] d.args)) (sym (last_found p.predicates never new_there)) tt
 
   lost_formed : IsWellFormed lost
   lost_formed = record {
