@@ -51,6 +51,10 @@ use Rattle.compiling_laws.proofs.Lists.{false_true, any_true, any_from, member_l
 use Rattle.step_laws.proofs.Lists.{every_at, every_from}
 use Rattle.condition_laws.proofs.Otherwise.{rows_meet}
 use Rattle.finishing_laws.proofs.Rewritten.{rewritten_compiles}
+use Rattle.up_compiler.specs.declared.id.CompilerId.TheVariants.{Negations}
+use Rattle.step_laws.specs.Compiled.{IsCompiled}
+use Rattle.step_laws.specs.Naming.{entry_of}
+use Rattle.finishing_laws.specs.Rewritten.{rewritten}
 use Rattle.negations_laws.specs.Kinds.{normal_kind}
 use Rattle.negations_laws.specs.Negations.{normal_action, normal_form}
 use Rattle.negations_laws.proofs.Truth.{left, right}
