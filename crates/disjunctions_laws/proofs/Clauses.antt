@@ -143,9 +143,10 @@ mutual
   free_of (And' n fs) h k = all_free fs h k
   free_of (Or' n fs) h k = all_free fs h k
   free_of (not f) h k = free_of f h k
-  free_of (imply f g) h k =
-      (free_of f (former (anywhere is_exists f) (anywhere is_exists g) h) (former (anywhere is_forall f) (anywhere is_forall g) k),
-        free_of g (latter (anywhere is_exists f) (anywhere is_exists g) h) (latter (anywhere is_forall f) (anywhere is_forall g) k))
+  free_of (imply f g) h k = (
+    free_of f (former (anywhere is_exists f) (anywhere is_exists g) h) (former (anywhere is_forall f) (anywhere is_forall g) k),
+    free_of g (latter (anywhere is_exists f) (anywhere is_exists g) h) (latter (anywhere is_forall f) (anywhere is_forall g) k),
+  )
   free_of (exists vars f) h k = absurd (true≢false h)
   free_of (forall vars f) h k = absurd (true≢false k)
   free_of (Atom name ts) h k = tt
@@ -154,9 +155,10 @@ mutual
 
   all_free : {n : _} (fs : Row_of-Formula n) → in_row is_exists fs ≡ false → in_row is_forall fs ≡ false → AreQuantifierFree fs
   all_free end_of-Formula h k = tt
-  all_free (more_of-Formula f fs) h k =
-      (free_of f (former (anywhere is_exists f) (in_row is_exists fs) h) (former (anywhere is_forall f) (in_row is_forall fs) k),
-        all_free fs (latter (anywhere is_exists f) (in_row is_exists fs) h) (latter (anywhere is_forall f) (in_row is_forall fs) k))
+  all_free (more_of-Formula f fs) h k = (
+    free_of f (former (anywhere is_exists f) (in_row is_exists fs) h) (former (anywhere is_forall f) (in_row is_forall fs) k),
+    all_free fs (latter (anywhere is_exists f) (in_row is_exists fs) h) (latter (anywhere is_forall f) (in_row is_forall fs) k),
+  )
 
 -- a test that sees no `and`, and that neither normal form nor simplification makes true
 pub record IsSteady (t : Formula → Bool) : Type 0 where

@@ -248,4 +248,3 @@ module _ (w : World) (s : State) (a : Action) (args : List Name) where
 
   pub lighter_next : changed s (firing w s (lighter a) args) ≡ changed s (firing w s a args)
   lighter_next = same_left s (firing w s (lighter a) args) (firing w s a args) thin
-

@@ -116,7 +116,7 @@ source_count = refl
 with_twins : (negations source).parts.actions
     ≡ action (codes "move-1") both (move_pre ++ Equal (Var (codes "f")) (Var (codes "t")) ∷ []) (add1 (codes "at-robby") (codes "t") ∷ del1 (codes "not-at-robby") (codes "t") ∷ [])
     ∷ action (codes "move-2") both (move_pre ++ differ ∷ [])
-        (add1 (codes "at-robby") (codes "t") ∷ del1 (codes "not-at-robby") (codes "t") ∷ del1 (codes "at-robby") (codes "f") ∷ add1 (codes "not-at-robby") (codes "f") ∷ [])
+    (add1 (codes "at-robby") (codes "t") ∷ del1 (codes "not-at-robby") (codes "t") ∷ del1 (codes "at-robby") (codes "f") ∷ add1 (codes "not-at-robby") (codes "f") ∷ [])
     ∷ pick ∷ drop ∷ []
 unfolding source simplified nnf positive anywhere fresh_name digits reserved_words hidden-the_row-Formula-0 hidden-the_row-Formula-1 denote.Hole.Carrier.hidden
 with_twins = refl
