@@ -12,7 +12,7 @@ use Rattle.up_tree.specs.Objects.{World, world}
 use Rattle.up_tree.specs.Simplify.{simplified, knows_nothing, true_formula, is_true_formula}
 use Rattle.up_tree.specs.WellFormed.{formulas_of}
 use Rattle.up_kind.specs.Carried.{anywhere, is_equal, is_exists, is_forall, is_compare, conditions, some_condition, some_row}
-use Rattle.up_kind.proofs.Shapes.{true_formula-And}
+use Rattle.up_kind.proofs.Shapes.{always-And}
 use Rattle.step_laws.specs.Naming.{Stands}
 use Rattle.conditionals_laws.specs.Conditionals.{Choice, choices, literal, is_chosen, chosen_row, variant, variants_by, variants, row_conditions, variant_pairs, conditionals}
 use Rattle.conditionals_laws.proofs.Choosing.{choice_covers, condition_listed, condition_of_row}
@@ -20,7 +20,8 @@ use Rattle.compiling_laws.proofs.Bare.{AreBare}
 use Rattle.condition_laws.specs.Carrying.{NoMore}
 use Rattle.condition_laws.proofs.Holding.{anywhere-And}
 use Rattle.condition_laws.proofs.Carrying.{simplified_carry}
-use Rattle.compiling_laws.proofs.Lists.{false_true, some_same, none_some, any_true, any_from, any_none, member_left, member_right, member_either, member_flat, of_flat, member_map, of_map, of_filter_map, every_at}
+use Rattle.compiling_laws.proofs.Lists.{false_true, some_same, none_some, any_true, any_from, any_none, member_left, member_right, member_either, member_flat, of_flat, member_map, of_map, of_filter_map}
+use Rattle.step_laws.proofs.Lists.{every_at}
 use Rattle.conditionals_laws.proofs.Splitting.{IsVariant, pair_is, IsVariantOf, itself, by_choice, variant_is, NoVariables}
 
 -- ---- tests of conditions that neither `and` nor `not` passes
@@ -171,7 +172,7 @@ module _ (p : Parts) where
 
   always_in : (a x : Action) → IsVariantOf (world p) a x → Member x (variants (world p) a) → (r : Row) → Member r x.rows → is_true_formula r.when ≡ true
   always_in a x (by_choice choice listed is kept) m r k =
-      subst (λ f. is_true_formula f ≡ true) (sym (of_chosen choice a.rows r (subst (λ (y : Action). Member r y.rows) is k)).1) (true_formula-And [])
+      subst (λ f. is_true_formula f ≡ true) (sym (of_chosen choice a.rows r (subst (λ (y : Action). Member r y.rows) is k)).1) (always-And [])
   always_in a x (itself is) m r k = by (row_conditions a) refl m
     where
       by : (cs : List Formula) → row_conditions a ≡ cs → Member x (variants_by (world p) a cs) → is_true_formula r.when ≡ true
@@ -184,7 +185,7 @@ module _ (p : Parts) where
               → is_true_formula r.when ≡ true
           made choice true pre e = none_some e
           made choice false pre e =
-              subst (λ f. is_true_formula f ≡ true) (sym (of_chosen choice a.rows r (subst (λ (y : Action). Member r y.rows) (sym (some_same _ _ e)) k)).1) (true_formula-And [])
+              subst (λ f. is_true_formula f ≡ true) (sym (of_chosen choice a.rows r (subst (λ (y : Action). Member r y.rows) (sym (some_same _ _ e)) k)).1) (always-And [])
 
   pub none_conditional : some_row q (λ r. flip (is_true_formula r.when)) ≡ false
   none_conditional = any_none (λ a. list_any (λ (r : Row). flip (is_true_formula r.when)) a.rows) q.actions (λ a m.

@@ -19,7 +19,8 @@ use Rattle.conditionals_laws.proofs.Features.{of_chosen}
 use Rattle.compiling_laws.proofs.Bare.{AreBare}
 use Rattle.semantics_laws.proofs.Lists.{each_as}
 use Rattle.condition_laws.proofs.Declaring.{variables_stay, formula_stays, rule_stays, numbers_stay, values_stay, metric_stays, constraint_stays}
-use Rattle.compiling_laws.proofs.Lists.{every_at, every_from, of_map}
+use Rattle.compiling_laws.proofs.Lists.{of_map}
+use Rattle.step_laws.proofs.Lists.{every_at, every_from}
 use Rattle.compiling_laws.proofs.Names.{all_names, new_names_of}
 use Rattle.compiling_laws.proofs.Scopes.{formula-And}
 use Rattle.conditionals_laws.proofs.Scopes.{chosen_formed}

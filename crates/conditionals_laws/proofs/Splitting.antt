@@ -26,7 +26,8 @@ use Rattle.compiling_laws.proofs.Taking.{name_apart, name_back, truth_told, neve
 use Rattle.compiling_laws.proofs.Scopes.{params_assigned}
 use Rattle.conditionals_laws.proofs.Choosing.{IsDecided, decided_two, Chosen, one_applies, Decides, literals_decide, condition_of_row}
 use Rattle.conditionals_laws.proofs.Firing.{v, e, chosen_pre, variant_kept, variant_followed, variant_true, variant_next}
-use Rattle.compiling_laws.proofs.Lists.{none_some, some_same, every_at, every_from, member_map, of_map, member_filter_map, of_filter_map}
+use Rattle.compiling_laws.proofs.Lists.{none_some, some_same, member_map, of_map, member_filter_map, of_filter_map}
+use Rattle.step_laws.proofs.Lists.{every_at, every_from}
 use Rattle.compiling_laws.proofs.Names.{of_names, HasFor, has_names, names_differ}
 use Rattle.conditionals_laws.proofs.Scopes.{chosen_formed}
 

@@ -14,7 +14,7 @@ use Rattle.up_tree.specs.Simplify.{simplified, knows_nothing, is_false_formula, 
 use Rattle.up_tree.specs.WellFormed.{IsFormula}
 use Rattle.up_tree.proofs.Nodes.{True-And}
 use Rattle.up_kind.specs.Carried.{anywhere, in_row, is_disjunctive, is_equal, is_exists, is_forall, is_compare}
-use Rattle.semantics_laws.specs.Laws.{SameTruth}
+use Rattle.semantics_laws.specs.SameTruth.{SameTruth}
 use Rattle.condition_laws.specs.Assigned.{IsOfScope}
 use Rattle.condition_laws.specs.Carrying.{Has, NoMore}
 use Rattle.condition_laws.specs.Guards.{KeepsGuards}
@@ -30,7 +30,8 @@ use Rattle.condition_laws.proofs.Keeping.{normals_carry, clauses_carry, literals
 use Rattle.condition_laws.proofs.Shaping.{normal_is_formed, clauses_are_formed, simplified_is_formed}
 use Rattle.condition_laws.proofs.Simplifying.{simplified_keeps}
 use Rattle.condition_laws.proofs.Staying.{simplified_is_normal, simplified_is_free}
-use Rattle.compiling_laws.proofs.Lists.{not_true, any_true, every_at, member_map, of_map, member_filter, of_filter}
+use Rattle.compiling_laws.proofs.Lists.{not_true, any_true, member_map, of_map, member_filter, of_filter}
+use Rattle.step_laws.proofs.Lists.{every_at}
 use Rattle.compiling_laws.proofs.Scopes.{formula-And}
 use Rattle.compiling_laws.proofs.Taking.{never_true}
 use Rattle.disjunctions_laws.specs.Disjunctions.{clause_formula, clause_formulas}
@@ -142,9 +143,10 @@ mutual
   free_of (And' n fs) h k = all_free fs h k
   free_of (Or' n fs) h k = all_free fs h k
   free_of (not f) h k = free_of f h k
-  free_of (imply f g) h k =
-      (free_of f (former (anywhere is_exists f) (anywhere is_exists g) h) (former (anywhere is_forall f) (anywhere is_forall g) k),
-        free_of g (latter (anywhere is_exists f) (anywhere is_exists g) h) (latter (anywhere is_forall f) (anywhere is_forall g) k))
+  free_of (imply f g) h k = (
+    free_of f (former (anywhere is_exists f) (anywhere is_exists g) h) (former (anywhere is_forall f) (anywhere is_forall g) k),
+    free_of g (latter (anywhere is_exists f) (anywhere is_exists g) h) (latter (anywhere is_forall f) (anywhere is_forall g) k),
+  )
   free_of (exists vars f) h k = absurd (true≢false h)
   free_of (forall vars f) h k = absurd (true≢false k)
   free_of (Atom name ts) h k = tt
@@ -153,9 +155,10 @@ mutual
 
   all_free : {n : _} (fs : Row_of-Formula n) → in_row is_exists fs ≡ false → in_row is_forall fs ≡ false → AreQuantifierFree fs
   all_free end_of-Formula h k = tt
-  all_free (more_of-Formula f fs) h k =
-      (free_of f (former (anywhere is_exists f) (in_row is_exists fs) h) (former (anywhere is_forall f) (in_row is_forall fs) k),
-        all_free fs (latter (anywhere is_exists f) (in_row is_exists fs) h) (latter (anywhere is_forall f) (in_row is_forall fs) k))
+  all_free (more_of-Formula f fs) h k = (
+    free_of f (former (anywhere is_exists f) (in_row is_exists fs) h) (former (anywhere is_forall f) (in_row is_forall fs) k),
+    all_free fs (latter (anywhere is_exists f) (in_row is_exists fs) h) (latter (anywhere is_forall f) (in_row is_forall fs) k),
+  )
 
 -- a test that sees no `and`, and that neither normal form nor simplification makes true
 pub record IsSteady (t : Formula → Bool) : Type 0 where

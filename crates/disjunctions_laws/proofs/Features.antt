@@ -28,8 +28,9 @@ use Rattle.condition_laws.specs.Guards.{IsRowOf}
 use Rattle.condition_laws.proofs.Guarding.{guarded_dont_meet}
 use Rattle.condition_laws.proofs.Holding.{none, anywhere-And, is_true_formula-true_formula}
 use Rattle.step_laws.specs.Naming.{Stands}
-use Rattle.compiling_laws.proofs.Lists.{or_told, false_true, and_true, any_false, any_true, any_from, member_left, member_right, member_either, member_flat, of_flat, member_map, of_map, every_at}
-use Rattle.compiling_laws.proofs.Otherwise as otherwise
+use Rattle.compiling_laws.proofs.Lists.{or_told, false_true, and_true, any_false, any_true, any_from, member_left, member_right, member_either, member_flat, of_flat, member_map, of_map}
+use Rattle.step_laws.proofs.Lists.{every_at}
+use Rattle.condition_laws.proofs.Otherwise as otherwise
 use Rattle.disjunctions_laws.specs.Disjunctions.{clause_formulas, clause_pairs, goal_clauses, goal_fact, plain_row, with_delete, fakes, with_fakes, disjunctions, action_names as used_names}
 use Rattle.disjunctions_laws.proofs.Clauses.{member_some, IsSteady, equal_steady, compare_steady, clause_steady, clause_no_exists, clause_no_forall, clause_not_disjunctive, clause_guards}
 use Rattle.disjunctions_laws.proofs.Goal.{IsFake, of_fakes, rows_other}

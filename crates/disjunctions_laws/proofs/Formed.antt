@@ -20,7 +20,8 @@ use Rattle.condition_laws.proofs.Declaring.{actions_are_of_declared}
 use Rattle.step_laws.specs.Naming.{Stands, Group, new_names, made_of}
 use Rattle.compiling_laws.proofs.Names.{every_append, fresh_is_name, all_names, new_names_of}
 use Rattle.compiling_laws.proofs.Forms.{every_as, formula_over, fact_over, number_fact_over, value_fact_over, metric_over, constraint_over}
-use Rattle.compiling_laws.proofs.Lists.{every_at, every_from, of_map}
+use Rattle.compiling_laws.proofs.Lists.{of_map}
+use Rattle.step_laws.proofs.Lists.{every_at, every_from}
 use Rattle.compiling_laws.proofs.Scopes.{formula-And}
 use Rattle.compiling_laws.proofs.Declared.{more_are_declared}
 use Rattle.compiling_laws.specs.Forms.{symbols}

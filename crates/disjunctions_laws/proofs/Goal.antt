@@ -22,13 +22,14 @@ use Rattle.condition_laws.proofs.Running.{agree_over, itself}
 use Rattle.step_laws.specs.Naming.{Stands, entry_of, new_names}
 use Rattle.step_laws.specs.StepLaw.{IsGoal}
 use Rattle.step_laws.specs.SplitLaw.{CanTakeBy, next_by}
-use Rattle.compiling_laws.proofs.Lists.{false_true, every_at, of_map, member_map, member_left, length-map}
+use Rattle.compiling_laws.proofs.Lists.{false_true, of_map, member_map, member_left, length-map}
+use Rattle.step_laws.proofs.Lists.{every_at}
 use Rattle.compiling_laws.proofs.Names.{fresh_is_new, differ_append}
 use Rattle.compiling_laws.specs.Forms.{symbols}
 use Rattle.finishing_laws.proofs.Unreached.{predicates_of, changed_among, holds_among}
 use Rattle.disjunctions_laws.specs.Disjunctions.{with_delete, fake_action, fake_actions, clause_pairs, goal_clauses, goal_fact, action_names as used_names, fakes, with_fakes}
 use Rattle.disjunctions_laws.specs.FakeLaw.{Ends, FakeLaw}
-use Rattle.disjunctions_laws.specs.Laws.{IsOther, GoalFact}
+use Rattle.disjunctions_laws.specs.Related.{IsOther, GoalFact}
 use Rattle.disjunctions_laws.proofs.Clauses.{some_clause, of_clause, clause_formed}
 use Rattle.disjunctions_laws.proofs.Declared.{expr_names, formula_names, action_names}
 use Rattle.disjunctions_laws.proofs.LastRow.{with_last, without_last, agree_last, fact_gone, fake_agrees, fake_adds, fake_can}

@@ -28,7 +28,7 @@ use Rattle.semantics_laws.proofs.Lists.{each_as, each_filter_map}
 use Rattle.semantics_laws.proofs.Tables.{tied}
 use Rattle.step_laws.specs.SplitLaw.{CanTakeBy, next_by}
 use Rattle.disjunctions_laws.specs.Disjunctions.{plain_row, with_delete, fake_action}
-use Rattle.disjunctions_laws.specs.Laws.{IsOther}
+use Rattle.disjunctions_laws.specs.Related.{IsOther}
 
 -- ---- lists
 
@@ -218,7 +218,7 @@ module _ (w : World) (t : State) (fact : Name) (a : Action) (args : List Name) w
           let q : Ground = ground name objects in
           contains-changed t (firing w t a args) q
           ∙ (λ i. (set.contains t.atoms q && not ((sym (any_less (is_at q) (of_firing deleted t (firing w t a args)) (ground fact []) (other_at fact name objects n)) ∙ ap (list_any (is_at q)) (sym more_deleted)) i))
-            || list_any (is_at q) (sym same_added i))
+          || list_any (is_at q) (sym same_added i))
           ∙ sym (contains-changed t (firing w t b args) q)
 
   -- ---- the fact is gone, where no row adds it
@@ -261,8 +261,8 @@ module _ (w : World) (t : State) (fact : Name) (a : Action) (args : List Name) w
     fact_gone holds =
         true≢false (sym holds ∙ contains-changed t (firing w t b args) (ground fact [])
         ∙ (λ i. (set.contains t.atoms (ground fact []) && not ((ap (list_any (is_at (ground fact []))) more_deleted
-          ∙ any_push (is_at (ground fact [])) (of_firing deleted t (firing w t a args)) (ground fact []) (same_at (ground fact []))) i))
-          || (ap (list_any (is_at (ground fact []))) same_added ∙ none_added) i)
+        ∙ any_push (is_at (ground fact [])) (of_firing deleted t (firing w t a args)) (ground fact []) (same_at (ground fact []))) i))
+        || (ap (list_any (is_at (ground fact []))) same_added ∙ none_added) i)
         ∙ never (set.contains t.atoms (ground fact [])))
       where
         never : (b : Bool) → ((b && not true) || false) ≡ false

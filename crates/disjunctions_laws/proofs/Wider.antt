@@ -186,4 +186,3 @@ module _ (p : Parts) (constants : ℕ) (more : List Predicate) (actions : List A
   pub gives_stay : (g : Gives) → OfGives p g → OfGives r g
   gives_stay gives.Number h = h
   gives_stay (gives.Object t) h = h
-

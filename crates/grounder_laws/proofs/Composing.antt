@@ -33,17 +33,17 @@ use Rattle.step_laws.proofs.Together.{two_compile}
 use Rattle.compiling_laws.proofs.Lists.{false_true}
 use Rattle.compiling_laws.specs.Forms.{symbols}
 use Rattle.finishing_laws.specs.Finished.{finished, themselves}
-use Rattle.finishing_laws.specs.Laws.{rewritten}
+use Rattle.finishing_laws.specs.Rewritten.{rewritten}
 use Rattle.finishing_laws.proofs.Finishing.{finish_compiles}
 use Rattle.finishing_laws.proofs.Left.{left_new, left_entries, news_themselves}
 use Rattle.grounder_laws.specs.Grounder.{static, Grounded, instance_by, ground_action, grounded, entry_of_instance, instantiated, lighter, simple_instances, grounder}
-use Rattle.grounder_laws.proofs.Static.{static_is_initial}
+use Rattle.grounder_laws.proofs.Static.{oracle_is_initial}
 use Rattle.grounder_laws.proofs.Names.{of_grounded, instance_name}
 use Rattle.grounder_laws.proofs.Formed.{instances_formed}
-use Rattle.grounder_laws.proofs.Instances.{instances_compile, no_constraints}
+use Rattle.grounder_laws.proofs.Instances.{instances_are_compiled, no_constraints}
 use Rattle.grounder_laws.proofs.Standing.{entry_found}
 use Rattle.grounder_laws.proofs.Instancing.{no_params, differ, same_init}
-use Rattle.grounder_laws.proofs.Lightened.{lightened_compile}
+use Rattle.grounder_laws.proofs.Lightened.{lightened_is_compiled}
 use Rattle.grounder_laws.proofs.Thinning.{somewhere_member}
 
 -- ---- the oracle tells what no row of an instance changes
@@ -79,8 +79,8 @@ instance_changes p x h =
 
 pub still_initial : (p : Parts) → IsInitial (instantiated p).parts (static p)
 still_initial p = record {
-  unchanged = λ fact told h changed. (static_is_initial p).unchanged fact told h (instance_changes p _ changed);
-  told = λ fact told h. ap (λ s. holds s fact) (sym (same_init p)) ∙ (static_is_initial p).told fact told h;
+  unchanged = λ fact told h changed. (oracle_is_initial p).unchanged fact told h (instance_changes p _ changed);
+  told = λ fact told h. ap (λ s. holds s fact) (sym (same_init p)) ∙ (oracle_is_initial p).told fact told h;
 }
 
 -- ---- no kept instance is dropped
@@ -187,12 +187,12 @@ finish_instances p formed =
 pub all_compiled : (p : Parts) → IsWellFormed p → IsTrue (admits Grounder (carries p))
     → IsCompiled (carries (simple_instances p)) p (grounder p).parts (grounder p).entries
 all_compiled p formed is =
-    let first : IsCompiled (carries p) p (instantiated p).parts (instantiated p).entries = instances_compile p (record { formed = formed; admitted = is }) in
+    let first : IsCompiled (carries p) p (instantiated p).parts (instantiated p).entries = instances_are_compiled p formed is in
     let second : IsCompiled (carries (instantiated p).parts) (instantiated p).parts (simple_instances p) (finished (symbols p) (static p) (instantiated p).parts).entries =
     finish_instances p formed
     in
     let third : IsCompiled (carries (simple_instances p)) (simple_instances p) (grounder p).parts (map entry_of (rewritten lighter (simple_instances p).actions)) =
-    lightened_compile (simple_instances p) (second.formed (instances_formed p formed)) (no_constraints p is)
+    lightened_is_compiled (simple_instances p) (second.formed (instances_formed p formed)) (no_constraints p is)
     in
     subst (λ m. IsCompiled (carries (simple_instances p)) p (grounder p).parts m) (same_entries p formed)
     (two_compile (carries (instantiated p).parts) (carries (simple_instances p)) p (simple_instances p) (grounder p).parts

@@ -17,7 +17,8 @@ use Rattle.up_kind.specs.Carried.{anywhere, conditions, is_equal, is_exists, is_
 use Rattle.condition_laws.proofs.Holding.{of_two, any_of_both}
 use Rattle.expansion_laws.proofs.Lists.{of_map, in_map}
 use Rattle.expansion_kinds.proofs.Tests.{any_member}
-use Rattle.compiling_laws.proofs.Lists.{false_true, none_some, some_same, any_false, member_left, member_right, member_flat, of_filter_map, every_at}
+use Rattle.compiling_laws.proofs.Lists.{false_true, none_some, some_same, any_false, member_left, member_right, member_flat, of_filter_map}
+use Rattle.step_laws.proofs.Lists.{every_at}
 use Rattle.finishing_laws.specs.Finished.{Goal, goal_rule}
 use Rattle.compiling_laws.specs.Forms.{symbols}
 use Rattle.grounder_laws.specs.Grounder.{static, Grounded, ground_action, grounded, instantiated, simple_instances}

@@ -19,7 +19,7 @@ use Rattle.condition_laws.specs.Oracles.{IsUnchanged, IsChanged}
 use Rattle.condition_laws.proofs.Simplifying.{initial_tells}
 use Rattle.condition_laws.proofs.Acting.{dropped_are_not_taken}
 use Rattle.condition_laws.proofs.Running.{unchanged_next, itself}
-use Rattle.expansion_laws.specs.Laws.{SameDoing}
+use Rattle.expansion_laws.specs.SameDoing.{SameDoing}
 use Rattle.expansion_laws.proofs.Substituting.{actions_substitute}
 use Rattle.expansion_laws.proofs.Typed.{arguments_typed}
 use Rattle.expansion_laws.proofs.Unchanged.{same_effect}
@@ -32,11 +32,11 @@ use Rattle.expansion_forms.proofs.Terms.{effect_well}
 use Rattle.step_laws.specs.StepLaw.{IsGoal, StepLaw}
 use Rattle.step_laws.specs.SplitLaw.{CanTakeBy, next_by}
 use Rattle.step_laws.proofs.Splitting.{find_member}
-use Rattle.compiling_laws.proofs.Lists.{every_at}
+use Rattle.step_laws.proofs.Lists.{every_at}
 use Rattle.grounder_laws.specs.Grounder.{static, Grounded, instance_by, ground_action, is_kept, made_names, grounded, instantiated}
-use Rattle.grounder_laws.specs.Laws.{AreSame}
+use Rattle.grounder_laws.specs.Related.{AreSame}
 use Rattle.grounder_laws.proofs.Standing.{Stand, stand_gives_step}
-use Rattle.grounder_laws.proofs.Static.{static_is_initial}
+use Rattle.grounder_laws.proofs.Static.{oracle_is_initial}
 use Rattle.grounder_laws.proofs.Names.{of_grounded, HasInstance, has_all, instance_name, names_differ}
 
 -- ---- an instance is as good as the action
@@ -113,7 +113,7 @@ module _ (p : Parts) (formed : IsWellFormed p) where
       by (Some b) at = refl
       by None at =
           absurd (dropped_are_not_taken q (instance_by a.params a.name a args) (instance_formed a.name a args m typed) (world p) s (static p) []
-          (initial_tells p s (static p) (static_is_initial p) is) at
+          (initial_tells p s (static p) (oracle_is_initial p) is) at
           (λ fault h. can fault (((as_good (world p) a.name a args typed).faults s fault).1 h)))
 
 -- ---- the law

@@ -23,7 +23,8 @@ use Rattle.expansion_laws.proofs.Lists.{of_map}
 use Rattle.expansion_kinds.proofs.Tests.{any_member, any_there}
 use Rattle.expansion_kinds.proofs.Nodes.{formulas_keep_nodes, rows_stay_same}
 use Rattle.expansion_kinds.proofs.Instances.{instances_meet}
-use Rattle.compiling_laws.proofs.Lists.{false_true, any_none, every_at}
+use Rattle.compiling_laws.proofs.Lists.{false_true, any_none}
+use Rattle.step_laws.proofs.Lists.{every_at}
 use Rattle.grounder_laws.specs.Grounder.{Grounded, instance_by, ground_action, grounded, instantiated}
 use Rattle.grounder_laws.proofs.Names.{IsInstance, of_grounded}
 use Rattle.grounder_laws.proofs.Instancing.{no_params}

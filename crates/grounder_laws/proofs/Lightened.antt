@@ -26,16 +26,17 @@ use Rattle.condition_laws.proofs.Guarding.{meet-is}
 use Rattle.expansion_laws.proofs.Lists.{of_map, in_map, map_of_map}
 use Rattle.expansion_kinds.proofs.Tests.{any_member, any_there}
 use Rattle.step_laws.specs.Naming.{Stands, entry_of}
+use Rattle.step_laws.specs.Compiled.{IsCompiled}
 use Rattle.step_laws.specs.SplitLaw.{CanTakeBy, next_by, SplitLaw}
 use Rattle.step_laws.specs.StepLaw.{IsGoal}
 use Rattle.step_laws.proofs.Splitting.{split_law}
 use Rattle.step_laws.proofs.Free.{same_plans}
 use Rattle.compiling_laws.proofs.Entries.{rows_from, names_from, fits_from, leads_from}
 use Rattle.compiling_laws.proofs.Forms.{every_as, formula_over, variables_over, rule_over, fact_over, number_fact_over, value_fact_over, metric_over, constraint_over}
-use Rattle.compiling_laws.proofs.Lists.{every_at, every_from, of_filter}
-use Rattle.finishing_laws.specs.Laws.{rewritten}
+use Rattle.compiling_laws.proofs.Lists.{of_filter}
+use Rattle.step_laws.proofs.Lists.{every_at, every_from}
+use Rattle.finishing_laws.specs.Rewritten.{rewritten}
 use Rattle.grounder_laws.specs.Grounder.{is_left_out, lighter, lightened}
-use Rattle.grounder_laws.specs.Laws.{LightenedCompile}
 use Rattle.grounder_laws.proofs.Kind.{any_flat, conditions_of, in_action}
 use Rattle.grounder_laws.proofs.Lightening.{lighter_faults, lighter_next}
 use Rattle.grounder_laws.proofs.Meeting.{rows_meet}
@@ -234,8 +235,8 @@ module _ (p : Parts) (formed : IsWellFormed p) where
       (λ e. right (list_any (λ d. gives_an_object d && flip (is_total p d)) p.functions) (some_row p (λ r. is_undefine r.effect)) (of_rows (λ r. is_undefine r.effect) e))
       (of_two (list_any (λ d. gives_an_object d && flip (is_total p d)) p.functions) (some_row q (λ r. is_undefine r.effect)) h)
 
-pub lightened_compile : LightenedCompile
-lightened_compile p formed free = record {
+pub lightened_is_compiled : (p : Parts) → IsWellFormed p → p.constraints ≡ [] → IsCompiled (carries p) p (lightened p) (map entry_of (rewritten lighter p.actions))
+lightened_is_compiled p formed free = record {
   formed = λ h. lightened_formed p formed;
   features = λ f h. lightened_features p formed f h;
   metric = refl;

@@ -24,7 +24,6 @@ use Rattle.expansion_laws.proofs.Doing.{by_path}
 use Rattle.compiling_laws.proofs.Same.{same_decides}
 use Rattle.compiling_laws.proofs.Lists.{false_true, and_true, any_true, member_filter}
 use Rattle.grounder_laws.specs.Grounder.{is_bare, adds, is_outdone, is_left_out, lighter}
-use Rattle.grounder_laws.specs.Laws.{LighterTaken}
 use Rattle.grounder_laws.proofs.Thinning.{adding, deleting, Thins, nothing, lost, behind, numbers, objects, object_back, object_on, number_back, number_on, same_left}
 
 -- ---- rows without variables and with the condition `true`
@@ -249,6 +248,3 @@ module _ (w : World) (s : State) (a : Action) (args : List Name) where
 
   pub lighter_next : changed s (firing w s (lighter a) args) ≡ changed s (firing w s a args)
   lighter_next = same_left s (firing w s (lighter a) args) (firing w s a args) thin
-
-pub lighter_taken : LighterTaken
-lighter_taken w s a args = record { faults = lighter_faults w s a args; next = lighter_next w s a args }

@@ -22,7 +22,8 @@ use Rattle.up_kind.specs.Carried.{gives_an_object, carries}
 use Rattle.up_kind.specs.Meeting.{share, is_guarded, may_agree, meet_by, meet, has_meeting_rows}
 use Rattle.expansion_kinds.proofs.Tests.{any_member, any_there, and_both}
 use Rattle.compiling_laws.proofs.Same.{same_decides}
-use Rattle.compiling_laws.proofs.Lists.{false_true, and_true, not_true, not_false, any_false, of_filter, every_at}
+use Rattle.compiling_laws.proofs.Lists.{false_true, and_true, not_true, not_false, any_false, of_filter}
+use Rattle.step_laws.proofs.Lists.{every_at}
 use Rattle.grounder_laws.specs.Grounder.{is_bare, adds, is_outdone, is_left_out, lighter}
 use Rattle.grounder_laws.proofs.Equalities.{no_vars}
 use Rattle.grounder_laws.proofs.Grounding.{ground_term}

@@ -16,11 +16,10 @@ use Rattle.up_tree.specs.declared.problem.Parts.{Parts}
 use Rattle.up_tree.specs.declared.problem.Fact.{Fact}
 use Rattle.up_tree.specs.State.{ground, ground_cmp, init}
 use Rattle.semantics_laws.specs.Symbols.{Symbol, predicate, function, target}
-use Rattle.condition_laws.specs.Oracles.{holds, IsChanged}
+use Rattle.condition_laws.specs.Oracles.{holds, IsChanged, IsInitial}
 use Rattle.condition_laws.proofs.Holding.{left, right}
 use Rattle.compiling_laws.proofs.Lists.{none_some, some_same}
-use Rattle.grounder_laws.specs.Grounder.{changes, is_changed, same_fact, is_initial}
-use Rattle.grounder_laws.specs.Laws.{StaticIsInitial}
+use Rattle.grounder_laws.specs.Grounder.{changes, is_changed, same_fact, is_initial, static}
 
 named : Symbol → Name
 named (predicate n) = n
@@ -63,8 +62,8 @@ initial_holds p fact = set.contains-from_list ground_total (map (λ (a : Fact). 
     among [] = refl
     among (a ∷ atoms) = λ i. same_ground fact a i || among atoms i
 
-pub static_is_initial : StaticIsInitial
-static_is_initial p = record {
+pub oracle_is_initial : (p : Parts) → IsInitial p (static p)
+oracle_is_initial p = record {
   unchanged = λ fact told h changed. out fact told (is_changed p fact.predicate) h (changed_is p fact.predicate changed);
   told = λ fact told h. tells fact told (is_changed p fact.predicate) h;
 }

@@ -1,26 +1,31 @@
 -- What the table's row says of a problem that it accepts.
 use Rattle.std.proofs.Common.{◌≡◌, Bool, true, false, not as flip, ◌&&◌, ◌||◌, List, [], ◌∷◌, IsTrue, refl, sym, ◌∙◌}
 use Rattle.std.specs.List.{list_any, list_all}
-use Rattle.up_text.specs.Lists.{Member}
+use Rattle.up_text.specs.Lists.{Every, Member}
 use Rattle.up_tree.specs.declared.action.Action.{Action}
 use Rattle.up_tree.specs.declared.action.Row.{Row}
 use Rattle.up_tree.specs.declared.problem.Parts.{Parts}
 use Rattle.up_tree.specs.Simplify.{is_empty, is_true_formula}
+use Rattle.up_tree.specs.WellFormed.{IsWellFormed}
 use Rattle.up_kind.specs.declared.feature.Feature.TheVariants.{DisjunctiveConditions, ExistentialConditions, UniversalConditions, ConditionalEffects, ForallEffects, ObjectFluents, EffectOverlap, TrajectoryConstraints}
 use Rattle.up_kind.specs.Features.{FeatureSet, is_in, either}
 use Rattle.up_kind.specs.Carried.{carries}
 use Rattle.up_kind.specs.Meeting.{has_meeting_rows}
 use Rattle.up_compiler.specs.declared.id.CompilerId.TheVariants.{Negations}
 use Rattle.up_compiler.specs.Table.{admits, only_if}
-use Rattle.compiling_laws.proofs.Lists.{false_true, and_true, not_true, not_false, any_false, every_from}
+use Rattle.condition_laws.specs.Shapes.{IsNormal}
+use Rattle.compiling_laws.proofs.Lists.{none_there, and_true, not_true, not_false, any_false}
+use Rattle.step_laws.proofs.Lists.{every_from}
 use Rattle.negations_laws.specs.Kinds.{normal_kind}
-use Rattle.negations_laws.specs.Laws.{IsReady}
+use Rattle.negations_laws.specs.Twins.{main_conditions}
 use Rattle.negations_laws.proofs.Doing.{AreAlways}
 use Rattle.negations_laws.proofs.Stepping.{IsAccepted}
 
-none_there : {X : Type 0} (xs : List X) → flip (is_empty xs) ≡ false → xs ≡ []
-none_there [] e = refl
-none_there (x ∷ xs) e = false_true (sym e)
+-- a problem in normal form that the compiler accepts
+pub record IsReady (p : Parts) : Type 0 where
+  pub formed : IsWellFormed p
+  pub normal : Every IsNormal (main_conditions p)
+  pub admitted : IsTrue (admits Negations (carries p))
 
 record Off (K : FeatureSet) : Type 0 where
   conditional : K ConditionalEffects ≡ false

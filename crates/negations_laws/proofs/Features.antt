@@ -21,7 +21,8 @@ use Rattle.up_kind.specs.Features.{IsSubset, is_in, either, minus}
 use Rattle.up_kind.specs.Carried.{anywhere, in_row, carries, conditions, some_condition, some_row, is_not, is_disjunctive, is_equal, is_exists, is_forall, is_compare, is_numeric, is_scale, is_undefine, touches_objects, gives_an_object, is_total}
 use Rattle.condition_laws.specs.Shapes.{IsNegatable, IsNormal, AreNormal}
 use Rattle.condition_laws.proofs.Holding.{in_row-items, anywhere-And, anywhere-Or}
-use Rattle.compiling_laws.proofs.Lists.{false_true, none_some, some_same, any_true, any_from, any_none, any_false, every_at, member_left, member_right, member_either, member_map, of_map, member_flat, of_flat}
+use Rattle.compiling_laws.proofs.Lists.{false_true, none_some, some_same, any_true, any_from, any_none, any_false, member_left, member_right, member_either, member_map, of_map, member_flat, of_flat}
+use Rattle.step_laws.proofs.Lists.{every_at}
 use Rattle.negations_laws.specs.Twins.{main_conditions, Words, words, twin_of, denied_by, positive, all_positive, twin_effect, row_doing, with_twin, positive_action, Twin, twinned, twins_in}
 use Rattle.negations_laws.specs.Kinds.{positive_kind}
 use Rattle.negations_laws.proofs.Truth.{left, right}

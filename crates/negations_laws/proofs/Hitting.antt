@@ -14,7 +14,7 @@ use Rattle.up_tree.specs.declared.problem.Predicate.{Predicate}
 use Rattle.up_tree.specs.declared.problem.Parts.{Parts}
 use Rattle.up_tree.specs.Objects.{Assignment, predicate_named}
 use Rattle.up_tree.proofs.States.{ground_total}
-use Rattle.compiling_laws.proofs.Lists.{every_at, every_from}
+use Rattle.step_laws.proofs.Lists.{every_at, every_from}
 use Rattle.std.proofs.lemmas.Cmp.{tied_itself}
 use Rattle.up_tree.specs.State.{State, Ground, ground, ground_cmp}
 use Rattle.up_tree.specs.Value.{values_of}

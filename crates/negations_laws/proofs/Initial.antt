@@ -23,7 +23,8 @@ use Rattle.up_kind.specs.Carried.{type_tuples}
 use Rattle.up_eval.proofs.Types.{no_none, same_some, some_and, object_of}
 use Rattle.semantics_laws.proofs.Tables.{tied}
 use Rattle.expansion_forms.specs.Covered.{IsObjectOf}
-use Rattle.compiling_laws.proofs.Lists.{false_true, and_true, not_true, any_true, any_from, any_none, every_at, member_left, member_right, member_either, member_map, of_map, member_flat, of_flat, member_filter, of_filter}
+use Rattle.compiling_laws.proofs.Lists.{false_true, and_true, not_true, any_true, any_from, any_none, member_left, member_right, member_either, member_map, of_map, member_flat, of_flat, member_filter, of_filter}
+use Rattle.step_laws.proofs.Lists.{every_at}
 use Rattle.step_laws.proofs.Splitting.{find_of}
 use Rattle.negations_laws.specs.Twins.{Twin, words, twins_in, differ_in, is_initial, fact, twin_atoms, different_pairs, differ_atoms, new_atoms, twinned}
 use Rattle.negations_laws.specs.Related.{AreTwinned}

@@ -1,5 +1,5 @@
 -- A problem in normal form is compiled from the problem.
-use Rattle.std.proofs.Common.{◌≡◌, ◌⊎◌, ◌↔◌, Bool, true, false, not as flip, ◌&&◌, ◌||◌, List, [], ◌∷◌, map, take, Option, Some, None, option_map, IsSomeAnd, refl, ap, sym, ◌∙◌, subst, inl, inr, ⊎_elim}
+use Rattle.std.proofs.Common.{◌≡◌, ◌⊎◌, ◌↔◌, Bool, true, false, not as flip, ◌&&◌, ◌||◌, List, [], ◌∷◌, map, take, Option, Some, None, option_map, IsSomeAnd, refl, ap, sym, ◌∙◌, subst, inl, inr, ⊎_elim, IsTrue}
 use Rattle.std.specs.List.{list_any, flat_map}
 use Rattle.up_text.specs.declared.name.Name.{Name}
 use Rattle.up_text.specs.Names.{same_name}
@@ -31,8 +31,8 @@ use Rattle.up_kind.specs.declared.feature.Feature.TheVariants.{FlatTyping, Hiera
 use Rattle.up_kind.specs.Features.{IsSubset, is_in, either}
 use Rattle.up_kind.specs.Carried.{anywhere, carries, conditions, some_condition, is_not, is_disjunctive, is_equal, is_exists, is_forall, is_compare, is_numeric, is_scale, is_undefine, touches_objects, gives_an_object, is_total}
 use Rattle.up_kind.specs.Meeting.{has_meeting_rows}
-use Rattle.up_compiler.specs.Table.{only_if}
-use Rattle.semantics_laws.specs.Laws.{SameTruth}
+use Rattle.up_compiler.specs.Table.{admits, only_if}
+use Rattle.semantics_laws.specs.SameTruth.{SameTruth}
 use Rattle.semantics_laws.proofs.Same.{computed}
 use Rattle.condition_laws.specs.Guards.{IsRowOf}
 use Rattle.condition_laws.specs.Problems.{DeclaresTheSame}
@@ -41,18 +41,22 @@ use Rattle.condition_laws.proofs.Shaping.{normal_is_formed}
 use Rattle.condition_laws.proofs.Keeping.{normals_carry}
 use Rattle.condition_laws.proofs.Guarding.{normal_keeps_guards, guarded_dont_meet}
 use Rattle.condition_laws.proofs.Declaring.{formulas_are_of_declared, actions_are_of_declared}
-use Rattle.expansion_laws.specs.Laws.{SameOutcomes, SameStep}
+use Rattle.expansion_laws.specs.SameDoing.{SameOutcomes, SameStep}
 use Rattle.expansion_laws.proofs.Doing.{by_path, after, turned, same_doing}
 use Rattle.expansion_laws.proofs.Steps.{steps_follow}
 use Rattle.step_laws.proofs.Splitting.{find_map}
 use Rattle.same_plans.specs.SamePlans.{MetricValue}
 use Rattle.compiling_laws.proofs.Forms.{every_as, fact_over, number_fact_over, value_fact_over, metric_over, constraint_over}
-use Rattle.compiling_laws.proofs.Lists.{false_true, any_true, any_from, every_at, every_from, member_left, member_right, member_either, of_map, member_flat, of_flat}
-use Rattle.compiling_laws.proofs.Otherwise.{rows_meet}
+use Rattle.compiling_laws.proofs.Lists.{false_true, any_true, any_from, member_left, member_right, member_either, of_map, member_flat, of_flat}
+use Rattle.step_laws.proofs.Lists.{every_at, every_from}
+use Rattle.condition_laws.proofs.Otherwise.{rows_meet}
 use Rattle.finishing_laws.proofs.Rewritten.{rewritten_compiles}
+use Rattle.up_compiler.specs.declared.id.CompilerId.TheVariants.{Negations}
+use Rattle.step_laws.specs.Compiled.{IsCompiled}
+use Rattle.step_laws.specs.Naming.{entry_of}
+use Rattle.finishing_laws.specs.Rewritten.{rewritten}
 use Rattle.negations_laws.specs.Kinds.{normal_kind}
 use Rattle.negations_laws.specs.Negations.{normal_action, normal_form}
-use Rattle.negations_laws.specs.Laws.{NormalCompiles}
 use Rattle.negations_laws.proofs.Truth.{left, right}
 use Rattle.negations_laws.proofs.Admitted.{no_constraints}
 
@@ -304,8 +308,9 @@ module _ (p : Parts) where
   within_kind PartialFluents h =
       stays _ _ _ (ap (λ b. list_any (λ d. gives_an_object d && flip (is_total p d)) p.functions || b) (sym (same_rows (λ a. list_any (λ r. is_undefine r.effect) a.rows) (λ a. refl) p.actions)) ∙ h)
 
-pub normal_compiles : NormalCompiles
-normal_compiles p well is =
+pub normal_is_compiled : (p : Parts) → IsWellFormed p → IsTrue (admits Negations (carries p))
+    → IsCompiled (normal_kind (carries p)) p (normal_form p) (map entry_of (rewritten normal_action p.actions))
+normal_is_compiled p well is =
     rewritten_compiles (normal_kind (carries p)) p (normal_form p) normal_action (record {
       names = λ a. refl;
       params = λ a. refl;
@@ -314,5 +319,5 @@ normal_compiles p well is =
       features = within_kind p;
       metric = refl;
       plans = plans_stay p (no_constraints p is);
-      metrics = metrics_stay p;
+      metrics = λ plan valid. metrics_stay p plan;
     }) well

@@ -12,13 +12,14 @@ use Rattle.up_tree.specs.Plans.{metric_at}
 use Rattle.up_tree.specs.WellFormed.{OnMetric}
 use Rattle.semantics_laws.proofs.Agreeing.{same_number}
 use Rattle.condition_laws.specs.Shapes.{IsNormal}
-use Rattle.semantics_laws.specs.Laws.{SameTruth}
+use Rattle.semantics_laws.specs.SameTruth.{SameTruth}
 use Rattle.semantics_laws.proofs.Same.{same_truth}
 use Rattle.expansion_forms.proofs.Covering.{covers_itself, all_objects}
 use Rattle.step_laws.specs.StepLaw.{IsGoal}
 use Rattle.step_laws.specs.Naming.{Stands}
 use Rattle.step_laws.specs.SplitLaw.{CanTakeBy, next_by, SplitLaw}
-use Rattle.compiling_laws.proofs.Lists.{every_at, member_map, of_map}
+use Rattle.compiling_laws.proofs.Lists.{member_map, of_map}
+use Rattle.step_laws.proofs.Lists.{every_at}
 use Rattle.negations_laws.specs.Twins.{main_conditions, words, positive, positive_action, twin_pairs, twinned}
 use Rattle.negations_laws.specs.Related.{IsOld, AreTwinned}
 use Rattle.negations_laws.proofs.Values.{expr_names}

@@ -31,9 +31,9 @@ use Rattle.up_compiler.specs.declared.back.Target.TheVariants.{Keep}
 use Rattle.up_compiler.specs.Table.{admits}
 use Rattle.up_eval.proofs.Stays.{next_stays}
 use Rattle.up_eval.proofs.Initial.{init_is_of}
-use Rattle.semantics_laws.specs.Laws.{SameTruth}
+use Rattle.semantics_laws.specs.SameTruth.{SameTruth}
 use Rattle.semantics_laws.proofs.Agreeing.{same_atom}
-use Rattle.condition_laws.specs.Laws.{IsTakenWith}
+use Rattle.condition_laws.specs.Taken.{IsTakenWith}
 use Rattle.condition_laws.specs.Oracles.{IsTrueTo}
 use Rattle.condition_laws.proofs.Acting.{simple_actions_are_taken, dropped_are_not_taken}
 use Rattle.condition_laws.proofs.Assigning.{formulas_are_assigned}
@@ -46,17 +46,17 @@ use Rattle.step_laws.specs.Naming.{Stands, entry_of}
 use Rattle.step_laws.specs.SplitLaw.{CanTakeBy, next_by, SplitLaw}
 use Rattle.step_laws.specs.StepLaw.{IsGoal, StepLaw}
 use Rattle.step_laws.proofs.Splitting.{find_member, split_law}
-use Rattle.compiling_laws.proofs.Lists.{false_true, none_some, some_same, every_at, every_from, member_left, member_right, member_map, member_filter_map, of_filter_map}
+use Rattle.compiling_laws.proofs.Lists.{false_true, none_some, some_same, member_left, member_right, member_map, member_filter_map, of_filter_map}
+use Rattle.step_laws.proofs.Lists.{every_at, every_from}
 use Rattle.compiling_laws.specs.Forms.{symbols}
 use Rattle.finishing_laws.specs.Finished.{Goal}
 use Rattle.negations_laws.specs.Twins.{Words, words, positive_action, twin_pairs, twinned}
 use Rattle.negations_laws.specs.Related.{IsOld, AreTwinned}
 use Rattle.negations_laws.specs.Negations.{normal_action, simple_normal, simple_form, negations, negation_pairs, goal_predicates, AreRelated}
-use Rattle.negations_laws.specs.Laws.{IsReady, NegationsSplit, NegationsStep}
 use Rattle.negations_laws.proofs.Values.{found_old}
 use Rattle.negations_laws.proofs.Words.{fresh_new}
 use Rattle.negations_laws.proofs.Stepping.{IsAccepted, followed_by, kept_by, next_twinned}
-use Rattle.negations_laws.proofs.Admitted.{accepted}
+use Rattle.negations_laws.proofs.Admitted.{IsReady, accepted}
 use Rattle.negations_laws.proofs.Normals.{outcomes_same}
 use Rattle.negations_laws.proofs.Twinned.{twins_split}
 use Rattle.negations_laws.proofs.Whole.{ready, actions_are, always_rows, simple_is, compiled}
@@ -294,9 +294,3 @@ module _ (p : Parts) (well : IsWellFormed p) (admitted : IsTrue (admits Negation
 
   pub steps : StepLaw p q (negations p).entries (AreRelated p)
   steps = subst (λ m. StepLaw p q m (AreRelated p)) (entries_are p.actions) (split_law (AreRelated p) p q (negation_pairs p) split)
-
-pub negations_split : NegationsSplit
-negations_split p well admitted = split p well admitted
-
-pub negations_step : NegationsStep
-negations_step p well admitted = steps p well admitted

@@ -37,7 +37,8 @@ use Rattle.expansion_forms.specs.Covered.{Covers}
 use Rattle.expansion_forms.proofs.Covering.{covers_tuple, covers_itself, first_objects}
 use Rattle.step_laws.specs.SplitLaw.{CanTakeBy, next_by}
 use Rattle.compiling_laws.proofs.Bare.{AreBare}
-use Rattle.compiling_laws.proofs.Lists.{false_true, any_true, every_at, member_map}
+use Rattle.compiling_laws.proofs.Lists.{false_true, any_true, member_map}
+use Rattle.step_laws.proofs.Lists.{every_at}
 use Rattle.negations_laws.specs.Twins.{main_conditions, Twin, words, twins_in, differ_in, with_twin, positive_action}
 use Rattle.negations_laws.specs.Related.{IsOld, AreTwinned}
 use Rattle.negations_laws.proofs.Values.{NoObjectFunctions, action_names}

@@ -34,24 +34,24 @@ use Rattle.condition_laws.proofs.Stepping.{nothing_is_initial}
 use Rattle.step_laws.specs.Naming.{Stands, entry_of, Made}
 use Rattle.step_laws.specs.Compiled.{IsCompiled, IsCompilation, Owes}
 use Rattle.step_laws.proofs.Together.{two_compile, weaker}
-use Rattle.compiling_laws.proofs.Lists.{false_true, none_some, some_same, every_from, of_map}
+use Rattle.compiling_laws.proofs.Lists.{false_true, none_some, some_same, of_map}
+use Rattle.step_laws.proofs.Lists.{every_from}
 use Rattle.compiling_laws.specs.Forms.{symbols}
 use Rattle.finishing_laws.specs.Finished.{Goal, goal_rule, finished_by}
-use Rattle.finishing_laws.specs.Laws.{rewritten}
+use Rattle.finishing_laws.specs.Rewritten.{rewritten}
 use Rattle.finishing_laws.proofs.Finishing.{compiled_finish}
 use Rattle.finishing_laws.proofs.Left.{left, left_new, IsLeft, of_left, resolve, entries_found, entries_within}
 use Rattle.finishing_laws.proofs.Rewritten.{rewritten_news}
 use Rattle.negations_laws.specs.Twins.{words, positive_action, twin_pairs, twinned}
 use Rattle.negations_laws.specs.Kinds.{normal_kind, positive_kind}
 use Rattle.negations_laws.specs.Negations.{normal_action, normal_form, simple_normal, simple_form, negations}
-use Rattle.negations_laws.specs.Laws.{IsReady}
-use Rattle.negations_laws.proofs.Normals.{normal_compiles}
-use Rattle.negations_laws.proofs.Admitted.{admits_normal, all_always}
+use Rattle.negations_laws.proofs.Normals.{normal_is_compiled}
+use Rattle.negations_laws.proofs.Admitted.{IsReady, admits_normal, all_always}
 use Rattle.negations_laws.proofs.Doing.{AreAlways}
 use Rattle.compiling_laws.specs.Same.{same_formula, same_row}
 use Rattle.compiling_laws.proofs.Same.{same_decides}
-use Rattle.condition_laws.proofs.Carrying.{simple_actions_carry}
-use Rattle.negations_laws.proofs.Twinned.{twins_compile}
+use Rattle.condition_laws.proofs.ActionFeatures.{simple_actions_carry}
+use Rattle.negations_laws.proofs.Twinned.{twinned_is_compiled}
 
 -- ---- the entries stay
 
@@ -231,7 +231,7 @@ module _ (p : Parts) (well : IsWellFormed p) (admitted : IsTrue (admits Negation
 
   pub simple_compiles : IsCompiled K p n made.entries
   simple_compiles =
-      compiled_finish K p r pairs (sym (rewritten_news normal_action p.actions)) (normal_compiles p well admitted) (symbols p) knows_nothing well (nothing_is_initial r) (λ name m. m)
+      compiled_finish K p r pairs (sym (rewritten_news normal_action p.actions)) (normal_is_compiled p well admitted) (symbols p) knows_nothing well (nothing_is_initial r) (λ name m. m)
 
   goal_normal : IsNormal n.goal
   goal_normal = ruled_normal (symbols p) (simplified (world p) knows_nothing (nnf p.goal)) (simplified_is_normal (world p) knows_nothing (nnf p.goal) (nnf_normal p.goal))
@@ -269,7 +269,7 @@ module _ (p : Parts) (well : IsWellFormed p) (admitted : IsTrue (admits Negation
       subst (IsCompiled (row_result Negations (carries p)) p (twinned n)) entries_stay
       (weaker (positive_kind (carries n)) (row_result Negations (carries p)) p (twinned n) (composed made.entries (map entry_of (twin_pairs n)))
       (within_row (carries n) (carries p) simple_compiles.features)
-      (two_compile K (positive_kind (carries n)) p n (twinned n) made.entries (map entry_of (twin_pairs n)) simple_compiles (twins_compile n ready)))
+      (two_compile K (positive_kind (carries n)) p n (twinned n) made.entries (map entry_of (twin_pairs n)) simple_compiles (twinned_is_compiled n ready)))
 
   -- ---- rows stay when an action is simplified
 

@@ -19,7 +19,7 @@ use Rattle.condition_laws.proofs.Carrying.{simplified_carry}
 use Rattle.condition_laws.proofs.Holding.{of_two, none, anywhere-And}
 use Rattle.compiling_laws.proofs.Lists.{false_true, any_true, any_from, any_none, member_left, member_right, member_either, member_flat, of_flat, member_map, of_map}
 use Rattle.overlaps_laws.specs.Overlaps.{Meeting, meetings, argument_pairs, Case, cases, split_once, split_times, variant_pairs, overlaps}
-use Rattle.overlaps_laws.specs.Laws.{IsSplittable}
+use Rattle.overlaps_laws.specs.Splittable.{IsSplittable}
 use Rattle.overlaps_laws.proofs.Once.{made}
 use Rattle.overlaps_laws.proofs.Variants.{IsVariantOf, itself, by_case, variant_is, IsCase, all_equal, one_differs, case_is}
 use Rattle.overlaps_laws.proofs.Counting.{variants_dont_meet}
@@ -139,4 +139,4 @@ module _ (p : Parts) (ok : IsAdmitted p) (rows_of : (pair : Stands) → IsVarian
       let is : IsVariant p pair.0 = pair_is p pair.0 pair.1 in
       ap (has_meeting_rows q) (pair.2 ∙ is.but_name)
       ∙ has_same p q.actions p.goal is.variant pair.0.new.name
-      ∙ variants_dont_meet p ok.no_objects pair.0.old (Rattle.compiling_laws.proofs.Lists.every_at (IsSplittable p) p.actions pair.0.old ok.splittable is.member) is.variant is.listed)
+      ∙ variants_dont_meet p ok.no_objects pair.0.old (Rattle.step_laws.proofs.Lists.every_at (IsSplittable p) p.actions pair.0.old ok.splittable is.member) is.variant is.listed)

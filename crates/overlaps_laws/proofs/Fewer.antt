@@ -20,10 +20,11 @@ use Rattle.step_laws.proofs.Splitting.{find_of}
 use Rattle.condition_laws.specs.Guards.{are_apart, KeepsGuards}
 use Rattle.condition_laws.proofs.Guarding.{guards, guards-And, apart_dont_share, still_meet, meet-is, simplified_keeps_guards}
 use Rattle.condition_laws.proofs.Holding.{left, right}
-use Rattle.compiling_laws.proofs.Lists.{false_true, and_true, not_true, any_false, every_at, member_map, member_filter}
+use Rattle.compiling_laws.proofs.Lists.{false_true, and_true, not_true, any_false, member_map, member_filter}
+use Rattle.step_laws.proofs.Lists.{every_at}
 use Rattle.overlaps_laws.specs.Overlaps.{Meeting, meetings, argument_pairs, other_rows, Case, cases}
 use Rattle.overlaps_laws.proofs.Parting.{IsPartOf, Lacks, whole, part_of, part_filtered, lacks_filtered, part_mapped, lacks_mapped, lacks_flat, lacks_flat_without}
-use Rattle.overlaps_laws.specs.Laws.{IsSplittable}
+use Rattle.overlaps_laws.specs.Splittable.{IsSplittable}
 use Rattle.overlaps_laws.proofs.Rows.{Met, met, IsFirst, IsMeeting, meeting, meetings_of, pairs_formed, constants, IsArgument}
 use Rattle.overlaps_laws.proofs.Once.{made}
 use Rattle.overlaps_laws.proofs.Variants.{together, differing, IsCase, all_equal, one_differs, case_is}

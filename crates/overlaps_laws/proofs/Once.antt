@@ -26,13 +26,14 @@ use Rattle.condition_laws.proofs.Assigning.{formulas_are_assigned}
 use Rattle.condition_laws.proofs.Simplifying.{simplified_truth}
 use Rattle.compiling_laws.proofs.Taking.{always_true, truth_told}
 use Rattle.compiling_laws.proofs.Bare.{AreBare, plain, plain_instances, fires}
-use Rattle.compiling_laws.proofs.Lists.{none_some, every_at, every_from, member_map, member_filter_map}
+use Rattle.compiling_laws.proofs.Lists.{none_some, member_map, member_filter_map}
+use Rattle.step_laws.proofs.Lists.{every_at, every_from}
 use Rattle.compiling_laws.proofs.Scopes.{formula-And, params_assigned}
 use Rattle.condition_laws.proofs.Shaping.{simplified_is_formed}
 use Rattle.overlaps_laws.specs.Overlaps.{Case}
 use Rattle.overlaps_laws.proofs.Parting.{IsWith, here, later, with_member}
 use Rattle.overlaps_laws.proofs.Deleting.{same_numbers, same_objects, same_changed}
-use Rattle.overlaps_laws.specs.Laws.{IsSplittable}
+use Rattle.overlaps_laws.specs.Splittable.{IsSplittable}
 use Rattle.overlaps_laws.proofs.Rows.{Met, met_apart}
 use Rattle.overlaps_laws.proofs.Values.{some_is, some_not_none, OneValue}
 

@@ -19,11 +19,12 @@ use Rattle.up_compiler.specs.declared.id.CompilerId.TheVariants.{Overlaps}
 use Rattle.up_compiler.specs.Table.{admits, refused}
 use Rattle.step_laws.specs.Naming.{Stands, renamed, Group}
 use Rattle.step_laws.specs.SplitLaw.{CanTakeBy, next_by, SplitLaw}
-use Rattle.compiling_laws.proofs.Lists.{none_there, and_true, not_true, not_false, any_false, every_at, every_from, member_map, of_map}
+use Rattle.compiling_laws.proofs.Lists.{none_there, and_true, not_true, not_false, any_false, member_map, of_map}
+use Rattle.step_laws.proofs.Lists.{every_at, every_from}
 use Rattle.compiling_laws.proofs.Names.{of_names, HasFor, has_names, names_differ}
 use Rattle.compiling_laws.proofs.Taking.{name_apart, name_back, same_init}
 use Rattle.overlaps_laws.specs.Overlaps.{meetings, variants, variant_groups, variant_pairs, overlaps}
-use Rattle.overlaps_laws.specs.Laws.{IsSplittable}
+use Rattle.overlaps_laws.specs.Splittable.{IsSplittable}
 use Rattle.overlaps_laws.proofs.Fewer.{HasNoObjects, all_at}
 use Rattle.overlaps_laws.proofs.Times.{IsStep, HasOne, times_splittable, times_params, times_rows, times_step, times_followed}
 

@@ -22,7 +22,7 @@ use Rattle.compiling_laws.proofs.Lists.{none_some, some_same, member_map, of_map
 use Rattle.compiling_laws.proofs.Taking.{never_true}
 use Rattle.overlaps_laws.specs.Overlaps.{Meeting, meetings, argument_pairs, other_rows, Case, cases, variant, split_by, split_once}
 use Rattle.overlaps_laws.proofs.Parting.{IsWith, part_of, part_member}
-use Rattle.overlaps_laws.specs.Laws.{IsSplittable}
+use Rattle.overlaps_laws.specs.Splittable.{IsSplittable}
 use Rattle.overlaps_laws.proofs.Rows.{Met, met, IsFirst, IsMeeting, Arguments, arguments_are, pairs_are, case_formed}
 use Rattle.overlaps_laws.proofs.Values.{none_or_some, AreEqual, OneValue, one_value, SomeDiffer, all_or_one}
 use Rattle.overlaps_laws.proofs.Once.{fire, rows_fire, IsNoWorse, no_worse, changed_alike, more_no_worse, less_no_worse, made, variant_splittable, says, holds, kept_by, followed_by, next_alike}

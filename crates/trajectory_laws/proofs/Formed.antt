@@ -25,12 +25,14 @@ use Rattle.expansion_forms.proofs.Problems.{declared_well, more_declares, proble
 use Rattle.expansion_forms.proofs.Terms.{effect_well}
 use Rattle.compiling_laws.specs.Forms.{symbols}
 use Rattle.compiling_laws.proofs.Declared.{more_are_declared}
-use Rattle.compiling_laws.proofs.Lists.{every_at, every_from, member_left, member_right, member_flat}
+use Rattle.compiling_laws.proofs.Lists.{member_left, member_right, member_flat}
+use Rattle.step_laws.proofs.Lists.{every_at, every_from}
 use Rattle.compiling_laws.proofs.More.{fact_stays, numbers_stay, values_stay, metric_stays, gives_stay}
 use Rattle.compiling_laws.proofs.Names.{every_append}
 use Rattle.trajectory_laws.specs.Variables.{names, bound, action_variables, with_new_names}
 use Rattle.trajectory_laws.specs.Trajectory.{constraint_instances, Watch, always, sometime, at_most_once, sometime_after, sometime_before, monitors, watches, holds, adds, deletes, to_precondition, to_rows, to_goal, watched_formulas, watch_by, action_renamings, watched_action, all_constraint_variables, monitor_predicate, monitored}
-use Rattle.trajectory_laws.proofs.Renamed.{AreNew, Within, IsStill, new_names_keep, cleared, among, wider_formula}
+use Rattle.trajectory_laws.proofs.Wider.{wider_formula}
+use Rattle.trajectory_laws.proofs.NewNames.{AreNew, Within, IsStill, new_names_keep, cleared, among}
 use Rattle.trajectory_laws.proofs.Running.{IsSetting}
 use Rattle.trajectory_laws.proofs.Setting.{AreFresh, all_fresh, setting}
 

@@ -22,7 +22,8 @@ use Rattle.semantics_laws.proofs.Lists.{each_as, each_map, each_flat_map}
 use Rattle.expansion_laws.specs.Renamed.{renamed, renamed_members}
 use Rattle.expansion_laws.specs.Substituted.{substituted_rule}
 use Rattle.condition_laws.proofs.Holding.{left, right, of_two, any_of_both, anywhere-And, anywhere-Or}
-use Rattle.compiling_laws.proofs.Lists.{every_from, any_from, member_left, member_right, member_flat, of_flat, of_map}
+use Rattle.compiling_laws.proofs.Lists.{any_from, member_left, member_right, member_flat, of_flat, of_map}
+use Rattle.step_laws.proofs.Lists.{every_from}
 use Rattle.compiling_laws.proofs.Names.{every_append}
 use Rattle.compiling_laws.specs.Forms.{symbols}
 use Rattle.trajectory_laws.specs.Variables.{Renaming, with_new_names}

@@ -24,7 +24,7 @@ use Rattle.step_laws.specs.SplitLaw.{CanTakeBy, next_by}
 use Rattle.step_laws.specs.StepLaw.{IsGoal}
 use Rattle.step_laws.proofs.Splitting.{find_of}
 use Rattle.condition_laws.proofs.Running.{itself}
-use Rattle.compiling_laws.proofs.Lists.{every_at}
+use Rattle.step_laws.proofs.Lists.{every_at}
 use Rattle.expansion_laws.specs.Substituted.{substituted_rule}
 use Rattle.expansion_laws.proofs.Rules.{constraints_substitute}
 use Rattle.finishing_laws.proofs.Unreached.{holds_among}

@@ -1,12 +1,9 @@
--- Plain formulas without free variables under new names for bound variables: what they bind, their form and their truth.
-use Rattle.std.proofs.Common.{◌≡◌, ◌⊎◌, Bool, true, false, cond, true≢false, List, [], ◌∷◌, ◌++◌, map, Option, Some, None, option_map, IsSome, IsSomeAnd, refl, ap, sym, ◌∙◌, subst, inl, inr}
-use Rattle.std.specs.Prelude.{⊤, if◌then◌else◌}
-use Rattle.std.specs.Str.{bytes_eq}
+-- A plain formula with a new name for a bound variable: what it binds, and its form.
+use Rattle.std.proofs.Common.{◌≡◌, Bool, true, false, cond, true≢false, List, [], ◌∷◌, ◌++◌, map, Option, Some, None, option_map, IsSome, IsSomeAnd, refl, ap, sym, ◌∙◌, subst, inl, inr}
+use Rattle.std.specs.Prelude.{if◌then◌else◌}
 use Rattle.std.specs.Cmp.Lexicographic.{bytes_decides}
-use Rattle.std.proofs.lemmas.List.{append_assoc}
 use Rattle.up_text.specs.declared.name.Name.{Name}
 use Rattle.up_text.specs.Names.{same_name, IsName}
-use Rattle.up_text.specs.Fresh.{is_among, fresh_name}
 use Rattle.up_text.specs.Lists.{Every, Member, Differ}
 use Rattle.up_tree.specs.declared.term.Term.{Term, Var, Object, Fluent'}
 use Rattle.up_tree.specs.declared.term.Typed.{Typed}
@@ -14,18 +11,16 @@ use Rattle.up_tree.specs.declared.formula.Formula.{Formula, And', Or', Atom, Equ
 use Rattle.up_tree.specs.declared.problem.Parts.{Parts}
 use Rattle.up_tree.specs.declared.problem.Predicate.{Predicate}
 use Rattle.up_tree.specs.Nodes.{not, imply, exists, forall}
-use Rattle.up_tree.specs.Objects.{World, Assignment, named, type_in, predicate_named}
-use Rattle.up_tree.specs.State.{State}
-use Rattle.up_tree.specs.Judged.{truth_of}
+use Rattle.up_tree.specs.Objects.{named, type_in, predicate_named}
 use Rattle.up_tree.specs.WellFormed.{IsType, IsBelow, AreVariables, term_type, IsTerm, TermsFit, HasNoFluent, IsPlain, ArePlain, IsFormula, AreFormulas}
 use Rattle.semantics_laws.specs.Replaced.{Replacement, under, replaced, replaced_members}
 use Rattle.expansion_laws.specs.Renamed.{new_name, renamed_variables, renamed_term, renamed, renamed_members, TermLacks, Lacks, AllLack}
-use Rattle.expansion_laws.proofs.Renaming.{same_judged, test_of, differ_as}
-use Rattle.compiling_laws.proofs.Lists.{any_from, member_left, member_right, member_either}
-use Rattle.trajectory_laws.specs.Variables.{names, bound, all_bound, Renaming, renamings, with_new_names}
-use Rattle.trajectory_laws.proofs.Told.{closed_same, no_fluent_first}
+use Rattle.expansion_laws.proofs.Renaming.{test_of, differ_as}
+use Rattle.compiling_laws.proofs.Lists.{member_left, member_right}
+use Rattle.trajectory_laws.specs.Variables.{names, bound, all_bound}
+use Rattle.trajectory_laws.proofs.Told.{no_fluent_first}
 
-map-append : {X Y : Type 0} (f : X → Y) (xs ys : List X) → map f (xs ++ ys) ≡ map f xs ++ map f ys
+pub map-append : {X Y : Type 0} (f : X → Y) (xs ys : List X) → map f (xs ++ ys) ≡ map f xs ++ map f ys
 map-append f [] ys = refl
 map-append f (x ∷ xs) ys = ap (λ l. f x ∷ l) (map-append f xs ys)
 
@@ -316,187 +311,3 @@ module _ (from to : Name) where
       all_renamed_formed scope out end_of-Formula is plain free = tt
       all_renamed_formed scope out (more_of-Formula f fs) is plain free =
           (renamed_formed scope out f is.0 plain.0 (λ m. free (member_left to (bound f) (all_bound fs) m)), all_renamed_formed scope out fs is.1 plain.1 (λ m. free (member_right to (bound f) (all_bound fs) m)))
-
--- ---- further variables in scope
-
-module _ (q : Parts) (objects more : List Typed) where
-  first_named : (scope : List Typed) (v : Name) → IsSome (named scope v) → named (scope ++ more) v ≡ named scope v
-  first_named [] v h = absurd (true≢false (sym h))
-  first_named (x ∷ scope) v h = by (same_name x.name v) (first_named scope v) h
-    where
-      by : (b : Bool) → (IsSome (named scope v) → named (scope ++ more) v ≡ named scope v) → IsSome (cond b (Some x) (named scope v)) →
-          cond b (Some x) (named (scope ++ more) v) ≡ cond b (Some x) (named scope v)
-      by true later h = refl
-      by false later h = later h
-
-  wider_term : (scope : List Typed) (t : Term) → IsTerm q objects scope t → HasNoFluent (t ∷ []) → IsTerm q objects (scope ++ more) t × (term_type q (scope ++ more) t ≡ term_type q scope t)
-  unfolding IsTerm
-  wider_term scope (Var v) is plain = (subst IsSome (sym (first_named scope v is)) is, ap (option_map (λ (y : Typed). y.of)) (first_named scope v is))
-  wider_term scope (Object o) is plain = (is, refl)
-  wider_term scope (Fluent' f n ts) is plain = absurd plain
-
-  wider_terms : (scope : List Typed) (ts : List Term) (types : List Name) → TermsFit q objects scope ts types → HasNoFluent ts → TermsFit q objects (scope ++ more) ts types
-  wider_terms scope [] [] fit plain = tt
-  wider_terms scope [] (of ∷ types) fit plain = fit
-  wider_terms scope (t ∷ ts) [] fit plain = fit
-  wider_terms scope (t ∷ ts) (of ∷ types) fit plain =
-      let one : IsTerm q objects (scope ++ more) t × (term_type q (scope ++ more) t ≡ term_type q scope t) = wider_term scope t fit.0.0 (no_fluent_first t ts plain).0 in
-      ((one.0, subst (λ o. IsSomeAnd o (λ u. IsBelow q u of)) (sym one.1) fit.0.1), wider_terms scope ts types fit.1 (no_fluent_first t ts plain).1)
-
-  wider_atom : (scope : List Typed) (ts : List Term) → HasNoFluent ts → (found : Option Predicate) → IsSomeAnd found (λ d. TermsFit q objects scope ts d.args) →
-      IsSomeAnd found (λ d. TermsFit q objects (scope ++ more) ts d.args)
-  wider_atom scope ts plain None h = h
-  wider_atom scope ts plain (Some d) h = wider_terms scope ts d.args h plain
-
-  abbrev Outside : List Name → Type 0
-  Outside vs = (v : Name) → Member v (names more) → Lacking v vs
-
-  names_append : (vars scope : List Typed) → names (vars ++ scope) ≡ names vars ++ names scope
-  names_append vars scope = map-append (λ (v : Typed). v.name) vars scope
-
-  wider_variables : (scope vars : List Typed) → Outside (names vars) → AreVariables q scope vars → AreVariables q (scope ++ more) vars
-  wider_variables scope vars out are = record {
-    names_all = are.names_all;
-    differ = are.differ;
-    fresh = all_fresh vars out are.fresh;
-    typed = are.typed;
-  }
-    where
-      all_fresh : (vars : List Typed) → Outside (names vars) → Every (λ (v : Typed). ¬ Member v.name (map (λ (x : Typed). x.name) scope)) vars →
-          Every (λ (v : Typed). ¬ Member v.name (map (λ (x : Typed). x.name) (scope ++ more))) vars
-      all_fresh [] out h = tt
-      all_fresh (v ∷ vars) out h = (
-        λ m. elim (member_either v.name (names scope) (names more) (subst (Member v.name) (names_append scope more) m)) [
-          | inl k ↦ h.0 k
-          | inr k ↦ out v.name k (inl refl)
-        ],
-        all_fresh vars (λ x k m. out x k (inr m)) h.1,
-      )
-
-  mutual
-    unfolding IsFormula AreFormulas IsPlain ArePlain bound all_bound
-
-    pub wider_formula : (scope : List Typed) (f : Formula) → IsFormula q objects scope f → IsPlain f → Outside (bound f) → IsFormula q objects (scope ++ more) f
-    wider_formula scope (And' n fs) is plain out = wider_formulas scope fs is plain out
-    wider_formula scope (Or' n fs) is plain out = wider_formulas scope fs is plain out
-    wider_formula scope (not f) is plain out = wider_formula scope f is plain out
-    wider_formula scope (imply f g) is plain out =
-        (wider_formula scope f is.0 plain.0 (λ v k m. out v k (member_left v (bound f) (bound g) m)), wider_formula scope g is.1 plain.1 (λ v k m. out v k (member_right v (bound f) (bound g) m)))
-    wider_formula scope (exists vars f) is plain out = (
-      wider_variables scope vars (λ v k m. out v k (member_left v (names vars) (bound f) m)) is.0,
-      subst (λ inside. IsFormula q objects inside f) (append_assoc vars scope more) (wider_formula (vars ++ scope) f is.1 plain (λ v k m. out v k (member_right v (names vars) (bound f) m))),
-    )
-    wider_formula scope (forall vars f) is plain out = (
-      wider_variables scope vars (λ v k m. out v k (member_left v (names vars) (bound f) m)) is.0,
-      subst (λ inside. IsFormula q objects inside f) (append_assoc vars scope more) (wider_formula (vars ++ scope) f is.1 plain (λ v k m. out v k (member_right v (names vars) (bound f) m))),
-    )
-    wider_formula scope (Atom name ts) is plain out = wider_atom scope ts plain (predicate_named q name) is
-    wider_formula scope (Equal t u) is plain out =
-        ((wider_term scope t is.0 (no_fluent_first t (u ∷ []) plain).0).0, (wider_term scope u is.1 (no_fluent_first t (u ∷ []) plain).1).0)
-    wider_formula scope (Compare r a b) is plain out = absurd plain
-
-    wider_formulas : (scope : List Typed) {n : _} (fs : Row_of-Formula n) → AreFormulas q objects scope fs → ArePlain fs → Outside (all_bound fs) → AreFormulas q objects (scope ++ more) fs
-    wider_formulas scope end_of-Formula is plain out = tt
-    wider_formulas scope (more_of-Formula f fs) is plain out =
-        (wider_formula scope f is.0 plain.0 (λ v k m. out v k (member_left v (bound f) (all_bound fs) m)), wider_formulas scope fs is.1 plain.1 (λ v k m. out v k (member_right v (bound f) (all_bound fs) m)))
-
--- ---- one new name after another
-
--- each new name is a name, and none of the used ones or of those before it
-abbrev pub AreNew : List Renaming → List Name → Type 0
-AreNew [] used = ⊤
-AreNew (r ∷ more) used = (¬ Member r.new used) × IsName r.new × AreNew more (r.new ∷ used)
-
-abbrev pub Within : List Name → List Name → Type 0
-Within vs used = (v : Name) → Member v vs → Member v used
-
-pub record IsStill (q : Parts) (objects : List Typed) (f g : Formula) : Type 0 where
-  pub formed : IsFormula q objects [] f
-  pub plain : IsPlain f
-  pub truth : (w : World) (s : State) (e : Assignment) → truth_of w s e f ≡ truth_of w s e g
-
--- what a name was
-was : (from to x : Name) (vs : List Name) → Member x (map (new_name from to) vs) → (x ≡ to) ⊎ Member x vs
-was from to x (v ∷ vs) (inr m) = elim (was from to x vs m) [ inl e ↦ inl e | inr k ↦ inr (inr k) ]
-was from to x (v ∷ vs) (inl e) = by (same_name v from) e
-  where
-    by : (b : Bool) → x ≡ (if b then to else v) → (x ≡ to) ⊎ Member x (v ∷ vs)
-    by true e = inl e
-    by false e = inr (inl e)
-was from to x [] m = absurd m
-
-bound_within : (from to : Name) (f : Formula) (used : List Name) → Within (bound f) used → Within (bound (renamed from to f)) (to ∷ used)
-bound_within from to f used within v m = elim (was from to v (bound f) (subst (Member v) (bound-renamed from to f) m)) [
-  | inl e ↦ inl e
-  | inr k ↦ inr (within v k)
-]
-
-pub new_names_keep : (q : Parts) (objects : List Typed) (rs : List Renaming) (used : List Name) → AreNew rs used → (f : Formula) → IsFormula q objects [] f → IsPlain f → Within (bound f) used →
-    IsStill q objects (with_new_names rs f) f
-new_names_keep q objects [] used new f is plain within = record { formed = is; plain = plain; truth = λ w s e. refl }
-new_names_keep q objects (r ∷ rs) used new f is plain within =
-    let free : Lacking r.new (bound f) = λ m. new.0 (within r.new m) in
-    let g : Formula = renamed r.old r.new f in
-    let formed : IsFormula q objects [] g = renamed_formed r.old r.new q objects new.1 [] (λ m. m) f is plain free in
-    let more : IsStill q objects (with_new_names rs g) g =
-    new_names_keep q objects rs (r.new ∷ used) new.2 g formed (renamed_plain r.old r.new f plain) (bound_within r.old r.new f used within) in
-    let lacks : Lacks r.new f = unbound_lacks q objects r.new [] (λ m. m) f is plain free in
-    record {
-      formed = more.formed;
-      plain = more.plain;
-      truth = λ w s e. more.truth w s e ∙ same_judged r.old r.new s w (λ v. e (new_name r.old r.new v)) e (λ v n. refl) f lacks
-          ∙ closed_same q objects w s (λ v. e (new_name r.old r.new v)) e f is;
-    }
-
--- a used name that isn't bound stays so
-pub still_free : (rs : List Renaming) (used : List Name) → AreNew rs used → (f : Formula) (x : Name) → Member x used → Lacking x (bound f) → Lacking x (bound (with_new_names rs f))
-still_free [] used new f x at free = free
-still_free (r ∷ rs) used new f x at free =
-    still_free rs (r.new ∷ used) new.2 (renamed r.old r.new f) x (inr at)
-    (λ m. elim (was r.old r.new x (bound f) (subst (Member x) (bound-renamed r.old r.new f) m)) [
-      | inl e ↦ new.0 (subst (λ y. Member y used) e at)
-      | inr k ↦ free k
-    ])
-
--- the parameters that are among the added names give way
-pub among : (added : List Name) (y : Name) → Member y added → is_among added y ≡ true
-among added y m = any_from (bytes_eq y) added y m ((bytes_decides y y).1 refl)
-
-pub cleared : (added used : List Name) (params : List Typed) → AreNew (renamings added used params) used → ((v : Name) → Member v (names params) → Member v used) → (f : Formula) →
-    ((y : Name) → Member y (bound f) → Member y (names params) → is_among added y ≡ true) → (v : Name) → Member v (names params) → Lacking v (bound (with_new_names (renamings added used params) f))
-cleared added used [] new within f told v m = absurd m
-cleared added used (x ∷ params) new within f told z there =
-    by (is_among added x.name) refl new
-    (λ new g told. cleared added (fresh_name x.name used ∷ used) params new (λ v m. inr (within v (inr m))) g told)
-    (λ new told. cleared added used params new (λ v m. within v (inr m)) f told) z there
-  where
-    by : (b : Bool) → is_among added x.name ≡ b →
-        AreNew (cond b (record { old = x.name; new = fresh_name x.name used } ∷ renamings added (fresh_name x.name used ∷ used) params) (renamings added used params)) used →
-        (AreNew (renamings added (fresh_name x.name used ∷ used) params) (fresh_name x.name used ∷ used) → (g : Formula) → ((y : Name) → Member y (bound g) → Member y (names params) → is_among added y ≡ true) →
-        (v : Name) → Member v (names params) → Lacking v (bound (with_new_names (renamings added (fresh_name x.name used ∷ used) params) g))) →
-        (AreNew (renamings added used params) used → ((y : Name) → Member y (bound f) → Member y (names params) → is_among added y ≡ true) →
-        (v : Name) → Member v (names params) → Lacking v (bound (with_new_names (renamings added used params) f))) →
-        (v : Name) → Member v (names (x ∷ params)) →
-        Lacking v (bound (with_new_names (cond b (record { old = x.name; new = fresh_name x.name used } ∷ renamings added (fresh_name x.name used ∷ used) params) (renamings added used params)) f))
-    by true is new later other v (inl e) =
-        still_free (renamings added (fresh_name x.name used ∷ used) params) (fresh_name x.name used ∷ used) new.2 (renamed x.name (fresh_name x.name used) f) v (inr (within v (inl e)))
-        (λ m. gone (bound f) (subst (Member v) (bound-renamed x.name (fresh_name x.name used) f) m))
-      where
-        gone : (vs : List Name) → ¬ Member v (map (new_name x.name (fresh_name x.name used)) vs)
-        gone [] m = m
-        gone (y ∷ vs) (inr m) = gone vs m
-        gone (y ∷ vs) (inl k) = one (same_name y x.name) refl k
-          where
-            one : (c : Bool) → same_name y x.name ≡ c → v ≡ (if c then fresh_name x.name used else y) → ⊥
-            one true at k = new.0 (subst (λ z. Member z used) k (within v (inl e)))
-            one false at k = differ_as y x.name at (sym k ∙ e)
-    by true is new later other v (inr at) =
-        later new.2 (renamed x.name (fresh_name x.name used) f)
-        (λ y m k. elim (was x.name (fresh_name x.name used) y (bound f) (subst (Member y) (bound-renamed x.name (fresh_name x.name used) f) m)) [
-          | inl e ↦ absurd (new.0 (subst (λ z. Member z used) e (within y (inr k))))
-          | inr h ↦ told y h (inr k)
-        ]) v at
-    by false is new later other v (inl e) =
-        still_free (renamings added used params) used new f v (within v (inl e))
-        (λ m. true≢false (sym (told v m (inl e)) ∙ ap (is_among added) e ∙ is))
-    by false is new later other v (inr at) = other new (λ y m k. told y m (inr k)) v at

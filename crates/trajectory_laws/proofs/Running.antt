@@ -21,7 +21,7 @@ use Rattle.up_tree.specs.Faults.{CanTake, IsNext}
 use Rattle.up_tree.specs.WellFormed.{IsFormula, IsPlain, IsAction, IsWellFormed}
 use Rattle.up_tree.proofs.Nodes.{True-And}
 use Rattle.up_tree.proofs.States.{contains-changed}
-use Rattle.semantics_laws.specs.Laws.{SameTruth}
+use Rattle.semantics_laws.specs.SameTruth.{SameTruth}
 use Rattle.semantics_laws.specs.Symbols.{Symbol, predicate, target, FormulaNames, ActionNames, AgreeOn}
 use Rattle.semantics_laws.proofs.Agreeing.{same_judged}
 use Rattle.semantics_laws.proofs.Framing.{none_there, added_apart, deleted_apart, made_apart}
@@ -32,14 +32,15 @@ use Rattle.step_laws.specs.SplitLaw.{CanTakeBy, next_by}
 use Rattle.step_laws.specs.StepLaw.{IsGoal}
 use Rattle.condition_laws.proofs.Running.{agree_over}
 use Rattle.compiling_laws.proofs.Bare.{AreBare, plain}
-use Rattle.compiling_laws.proofs.Lists.{every_at, member_left, member_right}
+use Rattle.compiling_laws.proofs.Lists.{member_left, member_right}
+use Rattle.step_laws.proofs.Lists.{every_at}
 use Rattle.finishing_laws.proofs.Unreached.{predicates_of, changed_among}
 use Rattle.trajectory_laws.specs.Variables.{bound, action_variables, with_new_names}
 use Rattle.trajectory_laws.specs.Trajectory.{Watch, always, sometime, at_most_once, sometime_after, sometime_before, monitors, to_precondition, to_rows, to_goal, watched_formulas, watch_by, action_renamings, watched_action}
 use Rattle.trajectory_laws.specs.Memory.{Memory, is_set, remembered, goes_on, ends, advanced}
 use Rattle.trajectory_laws.proofs.Kept.{told}
 use Rattle.trajectory_laws.proofs.Told.{Sure, plain_sure, no_scope, closed_same}
-use Rattle.trajectory_laws.proofs.Renamed.{AreNew, Within, IsStill, new_names_keep}
+use Rattle.trajectory_laws.proofs.NewNames.{AreNew, Within, IsStill, new_names_keep}
 use Rattle.trajectory_laws.proofs.Adding.{filter_map-append, any-append, Marks, Apart, marked, firing_is, taken_from, taken_with, next_agrees}
 use Rattle.trajectory_laws.proofs.Watching.{Tells, AreTold, may_go_on, may_end, rows_sure, rows_bare, rows_mark, same_monitors, hit, own_added, own_deleted, memory_after}
 use Rattle.trajectory_laws.proofs.Declared.{formula_declared, action_declared}

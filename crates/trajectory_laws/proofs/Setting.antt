@@ -20,13 +20,15 @@ use Rattle.expansion_forms.proofs.Covering.{covers_arguments, all_objects}
 use Rattle.expansion_forms.proofs.Formulas.{replaced_well}
 use Rattle.expansion_forms.proofs.Plain.{plain_stays}
 use Rattle.compiling_laws.specs.Forms.{symbols}
-use Rattle.compiling_laws.proofs.Lists.{every_at, every_from, member_left, member_right, member_either, of_flat, of_map, member_flat}
+use Rattle.compiling_laws.proofs.Lists.{member_left, member_right, member_either, of_flat, of_map, member_flat}
+use Rattle.step_laws.proofs.Lists.{every_at, every_from}
 use Rattle.compiling_laws.proofs.Names.{fresh_is_new, fresh_is_name, every_append}
 use Rattle.finishing_laws.proofs.Unreached.{predicates_of}
 use Rattle.trajectory_laws.specs.Variables.{bound, action_variables, constraint_variables, names, renamings}
 use Rattle.trajectory_laws.specs.Trajectory.{instances_of, constraint_instances, Watch, always, sometime, at_most_once, sometime_after, sometime_before, monitors, watched, all_watched, watches, watched_formulas, all_constraint_variables}
 use Rattle.trajectory_laws.proofs.Kept.{rule_of}
-use Rattle.trajectory_laws.proofs.Renamed.{AreNew, Within, bound-replaced}
+use Rattle.trajectory_laws.proofs.Renamed.{bound-replaced}
+use Rattle.trajectory_laws.proofs.NewNames.{AreNew, Within}
 use Rattle.trajectory_laws.proofs.Running.{IsSetting}
 
 -- ---- the instances watch the rules

@@ -18,7 +18,7 @@ use Rattle.up_tree.specs.Judged.{Judges, opposite, either, both, all_of, any_of,
 use Rattle.up_tree.specs.WellFormed.{IsTerm, TermsFit, HasNoFluent, IsPlain, ArePlain, IsFormula, AreFormulas}
 use Rattle.up_tree.proofs.Judging.{judged}
 use Rattle.semantics_laws.proofs.Same.{computed}
-use Rattle.expansion_forms.specs.Laws.{SameInScope}
+use Rattle.expansion_forms.specs.Scope.{SameInScope}
 use Rattle.expansion_forms.proofs.Scopes.{scope_decides}
 use Rattle.condition_laws.specs.Assigned.{IsOfScope}
 use Rattle.condition_laws.proofs.Assigning.{of_tuple}

@@ -4,14 +4,11 @@ use Rattle.up_text.specs.declared.name.Name.{Name}
 use Rattle.up_text.specs.Lists.{Every, Somewhere, Member}
 use Rattle.up_tree.specs.declared.formula.Formula.{Formula}
 use Rattle.up_tree.specs.declared.problem.Parts.{Parts}
-use Rattle.up_tree.specs.declared.problem.Step.{Step}
 use Rattle.up_tree.specs.Objects.{world, unassigned}
-use Rattle.up_tree.specs.State.{State, init}
+use Rattle.up_tree.specs.State.{State}
 use Rattle.up_tree.specs.Truth.{True}
-use Rattle.up_tree.specs.Plans.{RunsFrom}
-use Rattle.up_tree.specs.WellFormed.{IsWellFormed}
 use Rattle.semantics_laws.specs.Symbols.{predicate, AgreeOn}
-use Rattle.trajectory_laws.specs.Trajectory.{Watch, always, sometime, at_most_once, sometime_after, sometime_before, monitors, watches, monitored}
+use Rattle.trajectory_laws.specs.Trajectory.{Watch, always, sometime, at_most_once, sometime_after, sometime_before, monitors, watches}
 use Rattle.trajectory_laws.specs.Memory.{is_set}
 
 -- ---- lists of states, the oldest first
@@ -51,9 +48,3 @@ abbrev pub GoAlong : Parts → List State → List State → List State → Type
 GoAlong p past [] [] = ⊤
 GoAlong p past (s ∷ states) (t ∷ others) = AreRelated p past s t × GoAlong p (past ++ s ∷ []) states others
 GoAlong p past _ _ = ⊥
-
--- a run of the output goes along with one of the source
-abbrev pub RunsGoAlong : Type 0
-RunsGoAlong =
-    (p : Parts) → IsWellFormed p → (steps : List Step) (others : List State) → RunsFrom (monitored p) (init (monitored p)) steps others →
-    (states : List State) × RunsFrom p (init p) steps states × GoAlong p [] states others

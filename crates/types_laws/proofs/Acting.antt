@@ -24,7 +24,7 @@ use Rattle.semantics_laws.proofs.Lists.{each_member, same_filter_map}
 use Rattle.semantics_laws.proofs.Same.{computed}
 use Rattle.step_laws.specs.SplitLaw.{CanTakeBy}
 use Rattle.compiling_laws.proofs.Lists.{member_filter, of_filter}
-use Rattle.expansion_laws.specs.Laws.{fits}
+use Rattle.expansion_laws.specs.Tuples.{fits}
 use Rattle.expansion_laws.proofs.Truths.{undefined-is, true_together}
 use Rattle.expansion_laws.proofs.Typed.{arguments_typed}
 use Rattle.expansion_laws.proofs.Doing.{by_path, after, turned, denied}

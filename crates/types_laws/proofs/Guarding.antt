@@ -17,7 +17,7 @@ use Rattle.up_tree.specs.Judged.{opposite, both, either, all_of, any_of, of_test
 use Rattle.up_tree.specs.WellFormed.{IsWellFormed, IsType, IsFormula, AreFormulas}
 use Rattle.semantics_laws.proofs.Lists.{each_member, same_map}
 use Rattle.condition_laws.proofs.Values.{both_true, either_false, all_append, any_append}
-use Rattle.expansion_laws.specs.Laws.{fits}
+use Rattle.expansion_laws.specs.Tuples.{fits}
 use Rattle.expansion_laws.proofs.Lists.{map_of_map}
 use Rattle.expansion_laws.proofs.Truths.{truth_of-And, truth_of-Or}
 use Rattle.types_laws.specs.Guards.{Guard, guards, guard_of, guard_atoms, of_top, and_guarded, guarded_condition, or_unguarded, guarded, all_guarded}

@@ -20,7 +20,8 @@ use Rattle.up_tree.specs.WellFormed.{IsWellFormed, IsType, top_type, AreDeclared
 use Rattle.semantics_laws.proofs.Lists.{each_map, each_as, each_member, each_flat_map}
 use Rattle.up_eval.proofs.Types.{at_some}
 use Rattle.step_laws.specs.Naming.{Stands}
-use Rattle.compiling_laws.proofs.Lists.{false_true, every_at, every_from, member_map, of_map, of_flat, of_filter}
+use Rattle.compiling_laws.proofs.Lists.{false_true, member_map, of_map, of_flat, of_filter}
+use Rattle.step_laws.proofs.Lists.{every_at, every_from}
 use Rattle.expansion_laws.proofs.Lists.{map_of_map, differ_append, differ_map, differ_filter}
 use Rattle.compiling_laws.specs.Forms.{symbols}
 use Rattle.types_laws.specs.Guards.{Guard, guards, of_top}

@@ -14,14 +14,15 @@ use Rattle.up_tree.specs.Instances.{firing}
 use Rattle.up_tree.specs.Plans.{metric_at}
 use Rattle.up_tree.specs.WellFormed.{IsWellFormed, IsAction}
 use Rattle.semantics_laws.specs.Symbols.{FormulaNames, ExprNames}
-use Rattle.semantics_laws.specs.Laws.{SameTruth}
+use Rattle.semantics_laws.specs.SameTruth.{SameTruth}
 use Rattle.semantics_laws.proofs.Agreeing.{same_judged, same_number}
 use Rattle.semantics_laws.proofs.Same.{same_truth}
 use Rattle.semantics_laws.proofs.Stepping.{same_faults}
 use Rattle.step_laws.specs.Naming.{Stands}
 use Rattle.step_laws.specs.StepLaw.{IsGoal}
 use Rattle.step_laws.specs.SplitLaw.{CanTakeBy, next_by, SplitLaw}
-use Rattle.compiling_laws.proofs.Lists.{every_at, member_map, of_map}
+use Rattle.compiling_laws.proofs.Lists.{member_map, of_map}
+use Rattle.step_laws.proofs.Lists.{every_at}
 use Rattle.expansion_laws.proofs.Lists.{map_of_map}
 use Rattle.expansion_laws.proofs.Truths.{true_together}
 use Rattle.types_laws.specs.Guards.{guards, guarded}

@@ -28,7 +28,8 @@ use Rattle.semantics_laws.proofs.Framing.{rest_stays}
 use Rattle.semantics_laws.proofs.Stepping.{agree_next}
 use Rattle.semantics_laws.proofs.Tables.{tied}
 use Rattle.step_laws.proofs.Splitting.{find_of, find_member}
-use Rattle.compiling_laws.proofs.Lists.{any_true, any_from, every_at, member_left, member_right, member_either, member_map, of_map, member_flat, of_flat, member_filter, false_true}
+use Rattle.compiling_laws.proofs.Lists.{any_true, any_from, member_left, member_right, member_either, member_map, of_map, member_flat, of_flat, member_filter, false_true}
+use Rattle.step_laws.proofs.Lists.{every_at}
 use Rattle.compiling_laws.specs.Forms.{symbols}
 use Rattle.types_laws.specs.Guards.{Guard, guards}
 use Rattle.types_laws.specs.Types.{guard_facts, new_facts, untyped}
