@@ -1,5 +1,5 @@
 -- Tokens of given kinds, and the bracket trees that they form.
-use Rattle.std.proofs.Common.{◌≡◌, true, List, [], ◌∷◌, ◌++◌, map, refl, ap, sym, ◌∙◌, subst, append_assoc}
+use Rattle.std.proofs.Common.{◌≡◌, true, List, [], ◌∷◌, ◌++◌, map, refl, ap, sym, ◌∙◌, subst}
 use Rattle.up_text.specs.declared.place.Place.{Place}
 use Rattle.pddl_lex.specs.declared.tree.Token.{Token}
 use Rattle.pddl_lex.specs.declared.tree.TokenKind.{TokenKind}
@@ -7,6 +7,7 @@ use Rattle.pddl_lex.specs.declared.tree.TokenKind.TheVariants.{Open, Close}
 use Rattle.pddl_lex.specs.declared.tree.Sexp.{Sexp, Leaf, Group}
 use Rattle.pddl_lex.specs.Brackets.{is_leaf, opening, closing, Bracketed, nothing, leaf, group as grouped}
 use Rattle.roundtrip_tokens.specs.Tokens.{group}
+use Rattle.pddl_lex.proofs.Bracketing.{trees_append}
 
 abbrev pub kinds_of : List Token → List TokenKind
 kinds_of tokens = map (λ t. t.kind) tokens
@@ -79,12 +80,6 @@ enclosed tokens ks is =
     }
 
 -- ---- trees
-
-pub trees_append : (one : List Token) (xs : List Sexp) → Bracketed one xs → (two : List Token) (ys : List Sexp) → Bracketed two ys → Bracketed (one ++ two) (xs ++ ys)
-trees_append _ _ nothing two ys b = b
-trees_append _ _ (leaf token rest trees is a) two ys b = leaf token (rest ++ two) (trees ++ ys) is (trees_append rest trees a two ys b)
-trees_append _ _ (grouped place end inner rest members trees a c) two ys b =
-    rw (append_assoc inner (closing end ∷ rest) two) (grouped place end inner (rest ++ two) members (trees ++ ys) a (trees_append rest trees c two ys b))
 
 -- the tokens are those of one tree, of which this is so
 pub record Formed (tokens : List Token) (P : Sexp → Type 0) : Type 0 where
