@@ -23,12 +23,13 @@ use Rattle.up_check.specs.Domains.{actions, second}
 use Rattle.grammar_names.specs.Phrases.{Enters, DenotesFormula}
 use Rattle.grammar_names.specs.Effects.{DenotesEffect}
 use Rattle.grammar_names.specs.Actions.{DenotesAction, DenoteEach, no_actions, more_actions, DenoteActions}
-use Rattle.grammar_names.specs.ActionLaws.{around}
-use Rattle.grammar_names.proofs.Parses.{sound_after, sound_is, holds}
+use Rattle.grammar_names.specs.Around.{around}
+use Rattle.grammar_shapes.proofs.Parses.{sound_is}
+use Rattle.grammar_names.proofs.Parses.{sound_after, holds}
 use Rattle.grammar_names.proofs.Conditions.{entered_read, entered_enters, formula_read, formula_denotes}
-use Rattle.grammar_names.proofs.SimpleEffects.{all_sound}
 use Rattle.grammar_names.proofs.Barring.{or_false}
 use Rattle.grammar_names.proofs.Effects.{effect_read, effect_denotes}
+use Rattle.grammar_shapes.proofs.Walks.{sound_of}
 
 -- nothing stands around the effect of an action
 within_is : (vars : Variables) → within vars [] ≡ around vars [] []
@@ -50,18 +51,18 @@ module _ (names : Declarations) (raw : RawAction) where
 
   rows_sound : (vars : Variables) → Sound (rows names (within vars []) raw.effect) (DenotesEffect names vars [] [] raw.effect)
   rows_sound vars =
-      all_sound (DenotesEffect names vars [] [] raw.effect) (rows names (within vars []) raw.effect)
+      sound_of (DenotesEffect names vars [] [] raw.effect) (rows names (within vars []) raw.effect)
       (λ rs e. effect_denotes names vars [] [] raw.effect rs (sym (ap (λ a. rows names a raw.effect) (within_is vars)) ∙ e))
 
   pub action_sound : Sound (action names raw) (DenotesAction names raw)
   action_sound =
       sound_after (Enters names [] raw.params []) (DenotesAction names raw) (entered_groups names [] raw.params []) (with_parameters names raw [])
-      (all_sound (Enters names [] raw.params []) (entered_groups names [] raw.params []) (λ vars e. entered_enters names [] raw.params [] vars e))
+      (sound_of (Enters names [] raw.params []) (entered_groups names [] raw.params []) (λ vars e. entered_enters names [] raw.params [] vars e))
       (λ vars enter.
       sound_two (DenotesFormula names vars Plain raw.pre) (DenotesEffect names vars [] [] raw.effect) (DenotesAction names raw)
       (action_of raw.name.name (map typed vars)) (formula names vars Plain raw.pre) (rows names (within vars []) raw.effect)
       (λ f rs pre effect. record { variables = vars; name = refl; enter = enter; params = refl; pre = pre; effect = effect })
-      (all_sound (DenotesFormula names vars Plain raw.pre) (formula names vars Plain raw.pre) (λ f e. formula_denotes names vars Plain raw.pre f e))
+      (sound_of (DenotesFormula names vars Plain raw.pre) (formula names vars Plain raw.pre) (λ f e. formula_denotes names vars Plain raw.pre f e))
       (rows_sound vars))
 
   pub action_denotes : (act : Action) → action names raw ≡ parsed act → DenotesAction names raw act

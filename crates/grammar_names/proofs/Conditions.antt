@@ -33,7 +33,8 @@ use Rattle.up_phrase.proofs.FormulaNodes.{formula-And, formula-Or, formula-Not, 
 use Rattle.grammar_names.proofs.Nodes.{and_built, or_built, formulas-items}
 use Rattle.grammar_names.proofs.Terms.{term_read, term_sound, arguments_read, arguments_sound, all_sound as terms_sound}
 use Rattle.grammar_names.proofs.Exprs.{expr_read, expr_sound}
-use Rattle.grammar_names.proofs.Parses.{sound_as, sound_after, sound_is, none_of, holds}
+use Rattle.grammar_shapes.proofs.Parses.{sound_map, sound_is}
+use Rattle.grammar_names.proofs.Parses.{sound_after, none_of, holds}
 
 -- ---- variables
 
@@ -52,7 +53,7 @@ module _ (barred : List Name) (of : Name) where
           (EnterNames barred of (it ∷ others) vars)
       by true is rest = tt
       by false free rest =
-          sound_as (EnterNames barred of others (vars ++ (it.name, of) ∷ [])) (EnterNames barred of (it ∷ others) vars) _
+          sound_map (EnterNames barred of others (vars ++ (it.name, of) ∷ [])) (EnterNames barred of (it ∷ others) vars) _
           (λ more enter. more_names it others vars more free enter) rest
 
   names_grow : (items : List Ident) (vars more : Variables) → EnterNames barred of items vars more → (added : Variables) × (more ≡ vars ++ added)
@@ -85,14 +86,14 @@ module _ (names : Declarations) (barred : List Name) where
       sound_after (EnterNames barred (type_named group.of) group.names vars) (Enters names barred (group ∷ others) vars) _ _
       (names_sound barred (type_named group.of) group.names vars) (λ inner enter.
       sound_behind (Enters names barred (group ∷ others) vars) (type_fault names group.of) _ (λ none.
-      sound_as (Enters names barred others inner) (Enters names barred (group ∷ others) vars) _
+      sound_map (Enters names barred others inner) (Enters names barred (group ∷ others) vars) _
       (λ more rest. more_groups group (type_named group.of) others vars inner more (type_had group.of none) enter rest) (entered_sound others inner)))
 
   pub entered_enters : (groups : List RawGroup) (vars more : Variables) → entered_groups names barred groups vars ≡ parsed more → Enters names barred groups vars more
   entered_enters groups vars more e =
       sound_is (Enters names barred groups vars) (entered_groups names barred groups vars) more (entered_sound groups vars) e
 
-  -- variables stand behind those that were there
+  -- variables stand after those that were there
   pub entered_grow : (groups : List RawGroup) (vars more : Variables) → Enters names barred groups vars more → (added : Variables) × (more ≡ vars ++ added)
   entered_grow _ _ _ (no_groups vars) = ([], sym (append-nil vars))
   entered_grow _ _ _ (more_groups group of others vars inner more has enter rest) =
@@ -123,7 +124,7 @@ module _ (names : Declarations) where
   atom_sound vars s place p args =
       sound_after (λ types. predicate_of names p.name ≡ Some types) (DenotesAtom names vars s p args) (predicate p (predicate_of names p.name))
       (arguments place p.name (map (term names vars s) args)) (predicate_sound p (predicate_of names p.name) refl) (λ types is.
-      sound_as (DenoteArguments names vars s types args) (DenotesAtom names vars s p args) _ (λ ts are. of_predicate types is are)
+      sound_map (DenoteArguments names vars s types args) (DenotesAtom names vars s p args) _ (λ ts are. of_predicate types is are)
       (arguments_sound names vars s place p.name types args (terms_sound names vars s args)))
 
   pub atom_denotes : (vars : Variables) (s : Setting) (place : Place) (p : Ident) (args : List RawTerm) (ts : List Term)

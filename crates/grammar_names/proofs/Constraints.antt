@@ -18,10 +18,11 @@ use Rattle.up_check.specs.Constraints.{for_each, ruled, pair, two, ruled_two, jo
 use Rattle.up_check.specs.Nodes.{forall, built}
 use Rattle.grammar_names.specs.Phrases.{Enters, DenotesFormula}
 use Rattle.grammar_names.specs.Constraints.{DenotesRule, an_always, a_sometime, an_at_most_once, a_sometime_after, a_sometime_before, DenoteConstraints, of_rule, of_and, of_forall, DenoteMembers, no_members, more_members}
-use Rattle.grammar_names.proofs.Parses.{sound_after, sound_as, sound_is}
-use Rattle.grammar_names.proofs.Found.{found_sound}
+use Rattle.grammar_shapes.proofs.Parses.{sound_map, sound_is}
+use Rattle.grammar_names.proofs.Parses.{sound_after}
 use Rattle.grammar_names.proofs.Conditions.{formula_read, formula_denotes, entered_read, entered_enters}
 use Rattle.grammar_names.proofs.ConstraintNodes.{and_built, each-items, constraints-And, constraints-Forall}
+use Rattle.grammar_shapes.proofs.Walks.{sound_of}
 
 module _ (names : Declarations) where
   -- ---- what is denoted is read
@@ -58,7 +59,7 @@ module _ (names : Declarations) where
 
   formula_sound : (vars : Variables) (f : RawFormula) → Sound (formula names vars setting.Constraint f) (Denotes vars f)
   formula_sound vars f =
-      found_sound (Denotes vars f) (formula names vars setting.Constraint f) (formula_denotes names vars setting.Constraint f)
+      sound_of (Denotes vars f) (formula names vars setting.Constraint f) (formula_denotes names vars setting.Constraint f)
 
   one_sound : (vars : Variables) (one : RawConstraint) (made : Formula → Rule) (f : RawFormula)
       → ((g : Formula) → Denotes vars f g → DenotesRule names vars one (made g))
@@ -95,7 +96,7 @@ module _ (names : Declarations) where
   and_sound : (vars : Variables) (members : List RawConstraint) → Every (AreSound vars) members
       → Sound (joined (map (constraints names vars) members)) (DenoteConstraints names vars (raw.And members))
   and_sound vars members are =
-      sound_as (DenoteMembers names vars members) (DenoteConstraints names vars (raw.And members))
+      sound_map (DenoteMembers names vars members) (DenoteConstraints names vars (raw.And members))
       (joined (map (constraints names vars) members))
       (λ cs so. of_and vars members cs so) (members_sound vars members are)
 
@@ -110,9 +111,9 @@ module _ (names : Declarations) where
         sound_after (λ inner. Enters names [] groups vars inner) (DenoteConstraints names vars (raw.Forall groups body))
         (entered_groups names [] groups vars)
         (λ (inner : Variables). constraints names inner body)
-        (found_sound (λ inner. Enters names [] groups vars inner) (entered_groups names [] groups vars)
+        (sound_of (λ inner. Enters names [] groups vars inner) (entered_groups names [] groups vars)
         (entered_enters names [] groups vars)) (λ inner enter.
-        sound_as (DenoteConstraints names inner body) (DenoteConstraints names vars (raw.Forall groups body)) (constraints names inner body)
+        sound_map (DenoteConstraints names inner body) (DenoteConstraints names vars (raw.Forall groups body)) (constraints names inner body)
         (λ cs is. of_forall vars inner groups body cs enter is) (constraints_sound body inner))
     constraints_sound (raw.Always f) vars = one_sound vars (raw.Always f) rule.Always f (λ g is. an_always f g is)
     constraints_sound (raw.Sometime f) vars = one_sound vars (raw.Sometime f) rule.Sometime f (λ g is. a_sometime f g is)

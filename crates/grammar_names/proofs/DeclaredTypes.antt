@@ -1,12 +1,12 @@
 -- A list of types declares types exactly where it is read as them.
 use Rattle.std.proofs.Common.{◌≡◌, ℕ, zero, suc, ◌+◌, Bool, true, false, true≢false, List, [], ◌∷◌, ◌++◌, length, Option, Some, None, refl, ap, sym, ◌∙◌, subst, inl, inr, arith}
-use Rattle.std.specs.Prelude.{◌⊎◌, ⊤, is_some}
+use Rattle.std.specs.Prelude.{◌⊎◌, ⊤, is_some, ◌↔◌}
 use Rattle.std.specs.Option.{option_map_or}
 use Rattle.std.specs.Cmp.Lexicographic.{bytes_decides}
 use Rattle.up_text.specs.declared.name.Name.{Name}
 use Rattle.up_text.specs.Names.{same_name}
 use Rattle.up_text.specs.Lists.{Member}
-use Rattle.pddl_lex.specs.Parses.{parsed, behind}
+use Rattle.pddl_lex.specs.Parses.{parsed, behind, faults}
 use Rattle.pddl_parse.specs.declared.raw.Ident.{Ident}
 use Rattle.pddl_parse.specs.declared.raw.RawGroup.{RawGroup}
 use Rattle.up_phrase.specs.declared.reason.Reason.{Reason}
@@ -16,7 +16,6 @@ use Rattle.up_phrase.specs.Named.{at, object, is_object}
 use Rattle.up_phrase.specs.Scopes.{type_named}
 use Rattle.up_declare.specs.Types.{parent_in, with_type, with_names, with_groups, with_parents, leaves, reaches, reason_at, fault_at, name_faults, type_faults, types}
 use Rattle.grammar_names.specs.DeclaredTypes.{Parents, listed, stated, ReachesObject, at_object, unlisted, under_parent, EachOnce, DeclareTypes}
-use Rattle.grammar_names.specs.DeclaredTypeLaws.{TypesAreRead, FaultlessTypesAreDeclared}
 use Rattle.up_declare.proofs.Chains.{leaves_none, leaves_some, enough}
 use Rattle.grammar_names.proofs.Found.{IsRead, faultless, no_fault}
 use Rattle.grammar_names.proofs.Once.{member_either}
@@ -372,13 +371,13 @@ module _ (groups : List RawGroup) where
 
 -- ---- the laws
 
-pub types_law : TypesAreRead
+pub types_law : (groups : List RawGroup) (declared : Parents) → DeclareTypes groups declared ↔ (types groups ≡ parsed declared)
 types_law groups ts = (types_read groups ts, types_declare groups ts)
 
 some_types : (groups : List RawGroup) → IsRead (types groups) → (ts : Parents) × DeclareTypes groups ts
 some_types groups read = (read.value, types_declare groups read.value read.is)
 
-pub faultless_law : FaultlessTypesAreDeclared
+pub faultless_law : (groups : List RawGroup) → ((declared : Parents) × DeclareTypes groups declared) ↔ (faults (types groups) ≡ [])
 faultless_law groups = (
   (λ (ts, is). no_fault (types groups) ts (types_read groups ts is)),
   (λ none. some_types groups (faultless (types groups) none)),

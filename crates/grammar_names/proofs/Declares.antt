@@ -1,11 +1,11 @@
 -- Objects, predicates and functions are read exactly where they are declared.
-use Rattle.std.proofs.Common.{◌≡◌, Bool, true, false, not, ◌||◌, List, [], ◌∷◌, ◌++◌, map, Option, Some, None, refl, ap, sym, ◌∙◌, subst}
+use Rattle.std.proofs.Common.{◌≡◌, true, not, ◌||◌, List, [], ◌∷◌, Option, Some, None, refl, ap, sym, ◌∙◌, subst}
 use Rattle.std.specs.Prelude.{is_some}
 use Rattle.std.specs.Map.{lookup}
 use Rattle.std.specs.Cmp.Lexicographic.{bytes_decides}
 use Rattle.up_text.specs.declared.name.Name.{Name}
 use Rattle.up_text.specs.Names.{same_name}
-use Rattle.pddl_lex.specs.Parses.{Parse, parsed, rejected, behind, before}
+use Rattle.pddl_lex.specs.Parses.{parsed}
 use Rattle.pddl_parse.specs.declared.raw.Ident.{Ident}
 use Rattle.pddl_parse.specs.declared.raw.RawGives.{RawGives}
 use Rattle.pddl_parse.specs.declared.raw.RawGives.TheVariants as stated
@@ -15,24 +15,23 @@ use Rattle.pddl_parse.specs.declared.raw.RawFunctions.{RawFunctions}
 use Rattle.pddl_parse.specs.declared.raw.DomainForm.{DomainForm}
 use Rattle.pddl_parse.proofs.Spelled.{Sound, sound_over, sound_behind}
 use Rattle.up_tree.specs.declared.problem.Gives.{Gives}
-use Rattle.up_tree.specs.declared.problem.Gives.TheVariants as gives
-use Rattle.up_phrase.specs.declared.fault.Fault.{Fault}
 use Rattle.up_phrase.specs.declared.names.Signature.{Signature}
 use Rattle.up_phrase.specs.declared.reason.Reason.TheVariants.{Duplicate, UnknownName}
 use Rattle.up_phrase.specs.Declarations.{Declarations, types_alone}
 use Rattle.up_phrase.specs.Lookups.{is_type, type_of, predicate_of, function_of}
 use Rattle.up_phrase.specs.Named.{at, is_object}
 use Rattle.up_phrase.specs.Scopes.{type_named, type_fault}
-use Rattle.up_phrase.specs.Walks.{Checked, after, unless, in_turn}
-use Rattle.up_declare.specs.Declaring.{and_object, and_predicate, and_function, declared_as, with_object, with_group, with_objects, is_symbol, each_of, arg_types, new_symbol, with_predicate, with_predicates, given, gives_fault, signature, with_function, with_function_group, with_functions}
+use Rattle.up_phrase.specs.Walks.{after, unless, in_turn}
+use Rattle.up_declare.specs.Declaring.{and_object, and_predicate, and_function, declared_as, with_object, with_group, with_objects, is_symbol, arg_types, new_symbol, with_predicates, given, gives_fault, signature, with_function, with_function_group, with_functions}
 use Rattle.up_declare.specs.Types.{types}
 use Rattle.up_check.specs.Domains.{declared}
 use Rattle.grammar_names.specs.Phrases.{HasType, unstated, of_type}
 use Rattle.grammar_names.specs.DeclaredTypes.{DeclareTypes}
 use Rattle.grammar_names.specs.Declares.{DeclareNames, no_names, new_name, known_name, DeclareObjects, no_objects, more_objects, HaveTypes, no_parameters, more_parameters, IsNewSymbol, DeclarePredicates, no_predicates, more_predicates, GiveValues, numbers, objects, DeclareGiving, no_symbols, more_symbols, DeclareFunctions, no_functions, more_functions, DeclareAll}
 use Rattle.grammar_names.proofs.DeclaredTypes.{types_read, types_declare}
-use Rattle.grammar_names.proofs.Found.{found_sound}
-use Rattle.grammar_names.proofs.Parses.{sound_as, sound_after, sound_is, none_of, holds}
+use Rattle.grammar_shapes.proofs.Parses.{sound_map, sound_is}
+use Rattle.grammar_names.proofs.Parses.{sound_after, none_of, holds}
+use Rattle.grammar_shapes.proofs.Walks.{sound_of}
 
 -- ---- types that are stated
 
@@ -92,13 +91,13 @@ module _ (of : Name) where
           → (found : Option Name) → type_of names it.name ≡ found
           → Sound (after (declared_as found of it names) (in_turn (with_object of) others)) (DeclareNames of (it ∷ others) names)
       by later None free =
-          sound_as (DeclareNames of others (and_object names it.name of)) (DeclareNames of (it ∷ others) names) _
+          sound_map (DeclareNames of others (and_object names it.name of)) (DeclareNames of (it ∷ others) names) _
           (λ more rest. new_name it others names more free rest) (later (and_object names it.name of))
       by later (Some first) is =
           sound_after (λ (a : Declarations). (a ≡ names) × (first ≡ of)) (DeclareNames of (it ∷ others) names) _ _
           (sound_behind (λ (a : Declarations). (a ≡ names) × (first ≡ of)) (unless (same_name first of) (at it.place Duplicate it.name)) (parsed names)
           (λ none. (refl, (bytes_decides first of).0 (holds (same_name first of) _ none)))) (λ a (same, type).
-          sound_as (DeclareNames of others a) (DeclareNames of (it ∷ others) names) _
+          sound_map (DeclareNames of others a) (DeclareNames of (it ∷ others) names) _
           (λ more rest. known_name it others names more (is ∙ ap Some type) (subst (λ n. DeclareNames of others n more) same rest))
           (later a))
 
@@ -131,7 +130,7 @@ objects_sound : (groups : List RawGroup) (names : Declarations) → Sound (with_
 objects_sound [] names = no_objects names
 objects_sound (group ∷ others) names =
     sound_after (GroupOf group names) (DeclareObjects (group ∷ others) names) _ _ (group_sound group names) (λ inner (has, declare).
-    sound_as (DeclareObjects others inner) (DeclareObjects (group ∷ others) names) _
+    sound_map (DeclareObjects others inner) (DeclareObjects (group ∷ others) names) _
     (λ more rest. more_objects group (type_named group.of) others names inner more has declare rest) (objects_sound others inner))
 
 pub objects_declare : (groups : List RawGroup) (names more : Declarations) → with_objects groups names ≡ parsed more → DeclareObjects groups names more
@@ -168,7 +167,7 @@ module _ (names : Declarations) where
   symbol_sound : (symbol : RawSymbol) → Sound (new_symbol names symbol) (IsNewSymbol names symbol)
   symbol_sound symbol =
       sound_behind (IsNewSymbol names symbol) (unless (not (is_symbol names symbol.name.name)) (at symbol.name.place Duplicate symbol.name.name)) _ (λ none.
-      sound_as (HaveTypes names symbol.params) (IsNewSymbol names symbol) _
+      sound_map (HaveTypes names symbol.params) (IsNewSymbol names symbol) _
       (λ args have. is_new symbol args (holds (not (is_symbol names symbol.name.name)) _ none) have) (parameters_sound symbol.params))
 
 pub predicates_read : (symbols : List RawSymbol) (names more : Declarations) → DeclarePredicates symbols names more
@@ -182,7 +181,7 @@ predicates_sound [] names = no_predicates names
 predicates_sound (symbol ∷ others) names =
     sound_after More (DeclarePredicates (symbol ∷ others) names) _ _
     (sound_after (IsNewSymbol names symbol) More _ _ (symbol_sound names symbol) (λ args is. (args, refl, is))) (λ inner (args, same, is).
-    sound_as (DeclarePredicates others inner) (DeclarePredicates (symbol ∷ others) names) _
+    sound_map (DeclarePredicates others inner) (DeclarePredicates (symbol ∷ others) names) _
     (λ more rest. more_predicates symbol args others names more is (subst (λ n. DeclarePredicates others n more) same rest)) (predicates_sound others inner))
   where
     More : Declarations → Type 0
@@ -205,7 +204,7 @@ module _ (gave : RawGives) where
   giving_sound (symbol ∷ others) names =
       sound_after More (DeclareGiving (given gave) (symbol ∷ others) names) _ _
       (sound_after (IsNewSymbol names symbol) More _ _ (symbol_sound names symbol) (λ args is. (args, refl, is))) (λ inner (args, same, is).
-      sound_as (DeclareGiving (given gave) others inner) (DeclareGiving (given gave) (symbol ∷ others) names) _
+      sound_map (DeclareGiving (given gave) others inner) (DeclareGiving (given gave) (symbol ∷ others) names) _
       (λ more rest. more_symbols symbol args others names more is (subst (λ n. DeclareGiving (given gave) others n more) same rest)) (giving_sound others inner))
     where
       More : Declarations → Type 0
@@ -240,7 +239,7 @@ functions_sound : (groups : List RawFunctions) (names : Declarations) → Sound 
 functions_sound [] names = no_functions names
 functions_sound (group ∷ others) names =
     sound_after (GivingOf group names) (DeclareFunctions (group ∷ others) names) _ _ (giving_group_sound group names) (λ inner (gives, declare).
-    sound_as (DeclareFunctions others inner) (DeclareFunctions (group ∷ others) names) _
+    sound_map (DeclareFunctions others inner) (DeclareFunctions (group ∷ others) names) _
     (λ more rest. more_functions group (given group.gives) others names inner more gives declare rest) (functions_sound others inner))
 
 pub functions_declare : (groups : List RawFunctions) (names more : Declarations) → with_functions groups names ≡ parsed more
@@ -260,10 +259,10 @@ declared_read form names all =
 declared_sound : (form : DomainForm) → Sound (declared form) (DeclareAll form)
 declared_sound form =
     sound_after (DeclareTypes form.types) (DeclareAll form) _ _
-    (found_sound (DeclareTypes form.types) (types form.types) (types_declare form.types)) (λ ts are.
+    (sound_of (DeclareTypes form.types) (types form.types) (types_declare form.types)) (λ ts are.
     sound_after (DeclareObjects form.constants (types_alone ts)) (DeclareAll form) _ _ (objects_sound form.constants (types_alone ts)) (λ constants declare.
     sound_after (DeclarePredicates form.predicates constants) (DeclareAll form) _ _ (predicates_sound form.predicates constants) (λ predicates state.
-    sound_as (DeclareFunctions form.functions predicates) (DeclareAll form) _
+    sound_map (DeclareFunctions form.functions predicates) (DeclareAll form) _
     (λ names give. record {
       types = ts;
       declared_types = are;

@@ -23,15 +23,17 @@ use Rattle.up_effect.specs.Effects.{with_variables, under, row, whens_and, added
 use Rattle.up_effect.specs.Nodes.{for_all, when}
 use Rattle.grammar_names.specs.Phrases.{Enters, DenotesFormula}
 use Rattle.grammar_names.specs.Effects.{bound_in, row_of, DenotesSimple, of_add, of_delete, of_number, of_object, of_undefine, DenotesEffect, of_and, of_forall, of_when, of_simple, DenoteEffects, no_effects, more_effects}
-use Rattle.grammar_names.specs.ActionLaws.{around}
-use Rattle.grammar_names.proofs.Parses.{sound_as, sound_after, sound_is}
+use Rattle.grammar_names.specs.Around.{around}
+use Rattle.grammar_shapes.proofs.Parses.{sound_map, sound_is}
+use Rattle.grammar_names.proofs.Parses.{sound_after}
 use Rattle.grammar_names.proofs.Conditions.{entered_read, entered_enters, entered_grow, formula_read, formula_denotes}
 use Rattle.grammar_names.proofs.EffectNodes.{and_built, for_all_built, when_built, rows-items, rows-And, rows-Forall, rows-When}
-use Rattle.grammar_names.proofs.SimpleEffects.{all_sound, added_read, deleted_read, number_read, object_read, undefined_read, added_sound, deleted_sound, changed_sound, undefined_sound}
+use Rattle.grammar_names.proofs.SimpleEffects.{added_read, deleted_read, number_read, object_read, undefined_read, added_sound, deleted_sound, changed_sound, undefined_sound}
 use Rattle.grammar_names.proofs.Barring.{groups_same, held_same, held_under, held}
+use Rattle.grammar_shapes.proofs.Walks.{sound_of}
 
 module _ (names : Declarations) (params : Variables) where
-  -- a row's variables are those behind the parameters
+  -- a row's variables are those after the parameters
   row_is : (bound : Variables) (conditions : List Formula) (e : Effect) → row (around params bound conditions) e ≡ row_of bound conditions e
   row_is bound conditions e = ap (λ vs. row_with (map typed vs)) (drop-append_seam params bound)
     where
@@ -119,7 +121,7 @@ module _ (names : Declarations) (params : Variables) where
       (read bound conditions members)
       (λ rs others is those. more_effects bound conditions member rs members others is those) are.0 (together_sound bound conditions members are.1)
 
-  -- these variables come into scope behind those that are there
+  -- these variables come into scope after those that are there
   record Inside (bound : Variables) (conditions : List Formula) (groups : List RawGroup) (more : Variables) : Type 0 where
     added : Variables
     is : more ≡ params ++ (bound ++ added)
@@ -138,14 +140,14 @@ module _ (names : Declarations) (params : Variables) where
   entered_sound : (bound : Variables) (conditions : List Formula) (groups : List RawGroup)
       → Sound (entered_groups names (held conditions) groups (params ++ bound)) (Inside bound conditions groups)
   entered_sound bound conditions groups =
-      all_sound (Inside bound conditions groups) (entered_groups names (held conditions) groups (params ++ bound))
+      sound_of (Inside bound conditions groups) (entered_groups names (held conditions) groups (params ++ bound))
       (λ more e. inside bound conditions groups more
       (entered_enters names (bound_in conditions) groups (params ++ bound) more (sym (entered_is conditions groups (params ++ bound)) ∙ e)))
 
   condition_sound : (bound : Variables) (condition : RawFormula)
       → Sound (formula names (params ++ bound) Plain condition) (DenotesFormula names (params ++ bound) Plain condition)
   condition_sound bound condition =
-      all_sound (DenotesFormula names (params ++ bound) Plain condition) (formula names (params ++ bound) Plain condition)
+      sound_of (DenotesFormula names (params ++ bound) Plain condition) (formula names (params ++ bound) Plain condition)
       (λ f e. formula_denotes names (params ++ bound) Plain condition f e)
 
   quantified_sound : (bound : Variables) (conditions : List Formula) (groups : List RawGroup) (body : RawEffect) (more : Variables)
@@ -153,7 +155,7 @@ module _ (names : Declarations) (params : Variables) where
       → Sound (rows names (with_variables (around params bound conditions) more) body) (Denotes bound conditions (for_all groups body))
   quantified_sound bound conditions groups body more in_scope is =
       rw (in_scope.is, ← for_all_built groups body)
-      (sound_as (Denotes (bound ++ in_scope.added) conditions body) (Denotes bound conditions (raw.Forall groups body))
+      (sound_map (Denotes (bound ++ in_scope.added) conditions body) (Denotes bound conditions (raw.Forall groups body))
       (rows names (around params (bound ++ in_scope.added) conditions) body)
       (λ rs so. of_forall bound in_scope.added conditions groups body rs in_scope.enter so) is)
 
@@ -162,7 +164,7 @@ module _ (names : Declarations) (params : Variables) where
       → Sound (rows names (under (around params bound conditions) f) body) (Denotes bound conditions (when condition body))
   conditional_sound bound conditions condition body f so is =
       rw (under_is bound conditions f, ← when_built condition body)
-      (sound_as (Denotes bound (whens_and conditions f) body) (Denotes bound conditions (raw.When condition body))
+      (sound_map (Denotes bound (whens_and conditions f) body) (Denotes bound conditions (raw.When condition body))
       (rows names (around params bound (whens_and conditions f)) body) (λ rs under. of_when bound conditions condition f body rs so under) is)
 
   mutual
@@ -172,7 +174,7 @@ module _ (names : Declarations) (params : Variables) where
         → Sound (rows names (around params bound conditions) raw) (DenotesEffect names params bound conditions raw)
     effect_sound (raw.And' n row) bound conditions =
         rw (and_built n row, rows-items names (around params bound conditions) row)
-        (sound_as (Denote bound conditions (items-the_row-RawEffect _ row)) (Denotes bound conditions (raw.And (items-the_row-RawEffect _ row)))
+        (sound_map (Denote bound conditions (items-the_row-RawEffect _ row)) (Denotes bound conditions (raw.And (items-the_row-RawEffect _ row)))
         (read bound conditions (items-the_row-RawEffect _ row))
         (λ rs are. of_and bound conditions (items-the_row-RawEffect _ row) rs are)
         (together_sound bound conditions (items-the_row-RawEffect _ row) (row_sound row bound conditions)))

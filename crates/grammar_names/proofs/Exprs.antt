@@ -31,7 +31,8 @@ use Rattle.grammar_names.specs.Phrases.{DenoteArguments, DenotesExpr, a_number, 
 use Rattle.up_phrase.proofs.ExprNodes.{expr-Call, expr-Arithmetic}
 use Rattle.grammar_names.proofs.Nodes.{call_built, arithmetic_built, terms-items, exprs-items}
 use Rattle.grammar_names.proofs.Terms.{arguments_read, arguments_sound, all_sound as terms_sound}
-use Rattle.grammar_names.proofs.Parses.{sound_as, sound_after, sound_is, holds, same_length}
+use Rattle.grammar_shapes.proofs.Parses.{sound_map, sound_is}
+use Rattle.grammar_names.proofs.Parses.{sound_after, holds, same_length}
 
 module _ (names : Declarations) (vars : Variables) (s : Setting) where
   abbrev Denotes : RawTerm → Expr → Type 0
@@ -108,7 +109,7 @@ module _ (names : Declarations) (vars : Variables) (s : Setting) where
       (sound_after (GivesNumbers f) (λ ts. (types : List Name) × GivesNumbers f types × Arguments types args ts)
       (numeric_function f (function_of names f.name)) (arguments place f.name (map (term names vars s) args))
       (numeric_sound f (function_of names f.name) refl) (λ types given.
-      sound_as (Arguments types args) (λ ts. (types : List Name) × GivesNumbers f types × Arguments types args ts) _ (λ ts of. (types, given, of))
+      sound_map (Arguments types args) (λ ts. (types : List Name) × GivesNumbers f types × Arguments types args ts) _ (λ ts of. (types, given, of))
       (arguments_sound names vars s place f.name types args (terms_sound names vars s args))))
 
   bare_denoted : (it : Ident) (types : List Name) → s ≡ setting.Metric → GivesNumbers it types → types ≡ [] → Denotes (raw.Name it) (Fluent it.name [])

@@ -1,11 +1,6 @@
 -- What holds of all that may be read holds of what is read, and where nothing is at fault something is read.
 use Rattle.std.proofs.Common.{◌≡◌, [], refl}
 use Rattle.pddl_lex.specs.Parses.{Parse, parsed, rejected, faults}
-use Rattle.pddl_parse.proofs.Spelled.{Sound}
-
-pub found_sound : {F A : Type 0} (P : A → Type 0) (v : Parse F A) → ((a : A) → v ≡ parsed a → P a) → Sound v P
-found_sound P (parsed a) h = h a refl
-found_sound P (rejected f fs) h = tt
 
 -- what is read without fault
 pub record IsRead {F A : Type 0} (v : Parse F A) : Type 0 where

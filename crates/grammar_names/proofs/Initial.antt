@@ -31,7 +31,8 @@ use Rattle.up_phrase.specs.Walks.{unless}
 use Rattle.up_check.specs.declared.lists.Initial.{Initial}
 use Rattle.up_check.specs.Initial.{object_faults, bracket_faults, arguments, is_at, number_at, object_at, is_equal, keeps_number, keeps_object, second_value, value_faults, term_faults, member_faults, with_atom, with_number, with_object, with_member, stated, initial}
 use Rattle.grammar_names.specs.Initial.{IsOfType, IsGroundTerm, of_function, fact, number_fact, value_fact, State, no_members, an_atom, an_absent_atom, a_number, an_object, Once, DenoteInitial}
-use Rattle.grammar_names.proofs.Parses.{sound_as, sound_is, holds, none_before, none_behind}
+use Rattle.grammar_shapes.proofs.Parses.{sound_map, sound_is}
+use Rattle.grammar_names.proofs.Parses.{holds, none_before, none_behind}
 use Rattle.grammar_names.proofs.Ground.{object_faultless, object_typed, bracket_faultless, bracket_typed, atom_faultless, atom_typed}
 use Rattle.grammar_names.proofs.Once.{Adds, stands, added, Keeps, keeps_more, keeps_less, keeps_none, keeps_nothing, is_listed, is_unlisted, at_same, at_name, at_arguments, OneEach, found_at, adds, repeats_one, one_after, one_more, one_less}
 
@@ -292,7 +293,7 @@ module _ (names : Declarations) where
       let given : List Fault = value_faults names before place term (value.Object it) function.gives in
       object_given before place term it function function.gives is (none_before args given none) refl (none_behind args given none)
 
-  -- ---- all members, behind what is stated before them
+  -- ---- all members, after what is stated before them
 
   record Denoted (before : Initial) (members : List RawInit) (it : Initial) : Type 0 where
     atoms : List Fact
@@ -350,7 +351,7 @@ module _ (names : Declarations) where
       let after : Initial = with_member before (member.Atom atom) in
       sound_behind (Denoted before (member.Atom atom ∷ others)) (member_faults names before (member.Atom atom))
       (stated names after others) (λ none.
-      sound_as (Denoted after others) (Denoted before (member.Atom atom ∷ others)) (stated names after others)
+      sound_map (Denoted after others) (Denoted before (member.Atom atom ∷ others)) (stated names after others)
       (λ it d. record {
         atoms = fact atom ∷ d.atoms;
         numbers = d.numbers;
@@ -365,7 +366,7 @@ module _ (names : Declarations) where
   denoted before (member.Absent atom ∷ others) one also =
       sound_behind (Denoted before (member.Absent atom ∷ others)) (member_faults names before (member.Absent atom))
       (stated names before others) (λ none.
-      sound_as (Denoted before others) (Denoted before (member.Absent atom ∷ others)) (stated names before others)
+      sound_map (Denoted before others) (Denoted before (member.Absent atom ∷ others)) (stated names before others)
       (λ it d. record {
         atoms = d.atoms;
         numbers = d.numbers;
@@ -383,7 +384,7 @@ module _ (names : Declarations) where
       sound_behind (Denoted before (raw ∷ others)) (member_faults names before raw) (stated names after others) (λ none.
       let is : IsNumber before term n = number_term before place at term n (function_of names term.name.name) refl none in
       let step : Adds (number_fact term n) before.numbers after.numbers = number_adds term n before.numbers is.any in
-      sound_as (Denoted after others) (Denoted before (raw ∷ others)) (stated names after others)
+      sound_map (Denoted after others) (Denoted before (raw ∷ others)) (stated names after others)
       (λ it d. record {
         atoms = d.atoms;
         numbers = number_fact term n ∷ d.numbers;
@@ -401,7 +402,7 @@ module _ (names : Declarations) where
       sound_behind (Denoted before (raw ∷ others)) (member_faults names before raw) (stated names after others) (λ none.
       let is : IsObject before term o = object_term before place term o (function_of names term.name.name) refl none in
       let step : Adds (value_fact term o.name) before.values after.values = object_adds term o.name before.values is.any in
-      sound_as (Denoted after others) (Denoted before (raw ∷ others)) (stated names after others)
+      sound_map (Denoted after others) (Denoted before (raw ∷ others)) (stated names after others)
       (λ it d. record {
         atoms = d.atoms;
         numbers = d.numbers;

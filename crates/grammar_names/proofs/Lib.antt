@@ -16,7 +16,7 @@ pub mod EffectNodes
 pub mod SimpleEffects
 pub mod Barring
 pub mod Constraints
-pub mod ProblemLaws
+pub mod Problems
 pub mod Effects
 pub mod Actions
 pub mod ProblemForms

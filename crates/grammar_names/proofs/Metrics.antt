@@ -11,9 +11,9 @@ use Rattle.up_phrase.specs.Exprs.{expr}
 use Rattle.up_check.specs.Metrics.{metric, metric_of}
 use Rattle.grammar_names.specs.Phrases.{DenotesExpr}
 use Rattle.grammar_names.specs.Metrics.{DenotesMetric, no_metric, of_value}
-use Rattle.grammar_names.proofs.Parses.{sound_is}
-use Rattle.grammar_names.proofs.Found.{found_sound}
+use Rattle.grammar_shapes.proofs.Parses.{sound_is}
 use Rattle.grammar_names.proofs.Exprs.{expr_read, expr_denotes}
+use Rattle.grammar_shapes.proofs.Walks.{sound_of}
 
 module _ (names : Declarations) where
   pub metric_read : (stated : Option RawMetric) (m : Option Metric) → DenotesMetric names stated m → metric_of names stated ≡ parsed m
@@ -32,7 +32,7 @@ module _ (names : Declarations) where
       sound_over (DenotesIt raw) (DenotesMetric names (Some raw)) (λ (it : Metric). Some it) (metric names raw) (λ m is. is)
       (sound_over (Denotes raw) (DenotesIt raw) (λ (value : Expr). record { minimize = raw.minimize; value = value })
       (expr names [] setting.Metric raw.value)
-      (λ e is. of_value raw e is) (found_sound (Denotes raw) (expr names [] setting.Metric raw.value)
+      (λ e is. of_value raw e is) (sound_of (Denotes raw) (expr names [] setting.Metric raw.value)
       (expr_denotes names [] setting.Metric raw.value)))
 
   pub metric_denotes : (stated : Option RawMetric) (m : Option Metric) → metric_of names stated ≡ parsed m → DenotesMetric names stated m

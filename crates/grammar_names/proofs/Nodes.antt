@@ -1,34 +1,23 @@
 -- What the verdicts say of a raw node as it is built, and that every raw node is one that is built.
-use Rattle.std.proofs.Common.{◌≡◌, List, ◌∷◌, map, Option, refl, ap, sym, ◌∙◌}
-use Rattle.up_text.specs.declared.name.Name.{Name}
+use Rattle.std.proofs.Common.{◌≡◌, ◌∷◌, map, refl, ap, sym, ◌∙◌}
 use Rattle.up_text.specs.declared.place.Place.{Place}
-use Rattle.pddl_lex.specs.Parses.{over, over_two, all}
 use Rattle.pddl_parse.specs.declared.raw.Ident.{Ident}
 use Rattle.pddl_parse.specs.declared.raw.Operator.{Operator}
-use Rattle.pddl_parse.specs.declared.raw.Relation.{Relation}
-use Rattle.pddl_parse.specs.declared.raw.RawGroup.{RawGroup}
 use Rattle.pddl_parse.specs.declared.raw.RawTerm.{RawTerm, Call', Arithmetic', Row_of-RawTerm, end_of-RawTerm, more_of-RawTerm, items-the_row-RawTerm, items_hidden-the_row-RawTerm-0}
 use Rattle.pddl_parse.specs.declared.raw.RawTerm as raw
-use Rattle.pddl_parse.specs.declared.raw.RawTerm.TheBlock.{hidden-the_row-RawTerm-0, shown-the_row-RawTerm-0, items_shown-the_row-RawTerm-0}
+use Rattle.pddl_parse.specs.declared.raw.RawTerm.TheBlock.{shown-the_row-RawTerm-0, items_shown-the_row-RawTerm-0}
 use Rattle.pddl_parse.specs.declared.raw.RawTerm.TheViews.{roll-RawTerm, roll-out-RawTerm, outs-Call', rolls-Call, outs-Arithmetic', rolls-Arithmetic}
 use Rattle.pddl_parse.specs.declared.raw.RawFormula.{RawFormula, And', Or', Row_of-RawFormula, end_of-RawFormula, more_of-RawFormula, items-the_row-RawFormula, items_hidden-the_row-RawFormula-0}
 use Rattle.pddl_parse.specs.declared.raw.RawFormula as form
-use Rattle.pddl_parse.specs.declared.raw.RawFormula.TheBlock.{hidden-the_row-RawFormula-0, shown-the_row-RawFormula-0, items_shown-the_row-RawFormula-0}
+use Rattle.pddl_parse.specs.declared.raw.RawFormula.TheBlock.{shown-the_row-RawFormula-0, items_shown-the_row-RawFormula-0}
 use Rattle.pddl_parse.specs.declared.raw.RawFormula.TheViews.{roll-RawFormula, roll-out-RawFormula, outs-And', rolls-And, outs-Or', rolls-Or}
 use denote.Hole.Carrier
-use Rattle.up_tree.specs.declared.expr.Expr as expr_form
-use Rattle.up_tree.specs.declared.formula.Formula.{Formula, And, Or, Not, Imply, Exists, Forall, Atom}
-use Rattle.up_tree.specs.declared.term.Term.{Fluent}
-use Rattle.up_tree.specs.declared.term.Typed.{Typed}
 use Rattle.up_phrase.specs.Declarations.{Declarations}
 use Rattle.up_phrase.specs.declared.term.Setting.{Setting}
-use Rattle.up_phrase.specs.Lookups.{function_of}
 use Rattle.up_phrase.specs.Scopes.{Variables}
-use Rattle.up_phrase.specs.Terms.{object_function, applied, term, terms}
-use Rattle.up_phrase.specs.Exprs.{numeric_function, arithmetic, expr, exprs}
-use Rattle.up_phrase.specs.Conditions.{atom_args, related, quantifier, formula, formulas}
-use Rattle.up_phrase.specs.Walks.{after}
-use Rattle.up_phrase.specs.Nodes.{built}
+use Rattle.up_phrase.specs.Terms.{term, terms}
+use Rattle.up_phrase.specs.Exprs.{expr, exprs}
+use Rattle.up_phrase.specs.Conditions.{formula, formulas}
 
 -- ---- nodes are built
 

@@ -37,7 +37,7 @@ pub data Adds {X : Type 0} (x : X) (before : List X) : List X → Type 0 where
   stands : Member x before → Adds x before before
   added : (¬ Member x before) → Adds x before (before ++ x ∷ [])
 
--- what is kept of facts behind others
+-- what is kept of facts after others
 pub record Keeps {X : Type 0} (before stated all : List X) : Type 0 where
   pub kept : List X
   pub once : Once before stated kept

@@ -1,8 +1,8 @@
 -- Where a walk finds no fault.
-use Rattle.std.proofs.Common.{◌≡◌, ℕ, Bool, true, false, List, [], ◌∷◌, ◌++◌, refl, subst, arith}
+use Rattle.std.proofs.Common.{◌≡◌, ℕ, Bool, true, false, List, [], ◌∷◌, ◌++◌, refl, arith}
 use Rattle.std.specs.Prelude.{◌==◌}
 use Rattle.std.proofs.lemmas.Bool.Decides.{nat_tests}
-use Rattle.pddl_lex.specs.Parses.{Parse, parsed, rejected}
+use Rattle.pddl_lex.specs.Parses.{parsed, rejected}
 use Rattle.pddl_parse.proofs.Spelled.{Sound}
 use Rattle.up_phrase.specs.declared.fault.Fault.{Fault}
 use Rattle.up_phrase.specs.Walks.{Checked, after, unless}
@@ -11,14 +11,6 @@ pub sound_after : {A B : Type 0} (P : A → Type 0) (Q : B → Type 0) (v : Chec
     → Sound v P → ((a : A) → P a → Sound (next a) Q) → Sound (after v next) Q
 sound_after P Q (parsed a) next is h = h a is
 sound_after P Q (rejected f fs) next is h = tt
-
-pub sound_as : {F A : Type 0} (P Q : A → Type 0) (v : Parse F A) → ((a : A) → P a → Q a) → Sound v P → Sound v Q
-sound_as P Q (parsed a) h is = h a is
-sound_as P Q (rejected f fs) h is = tt
-
--- what is read is so
-pub sound_is : {F A : Type 0} (P : A → Type 0) (v : Parse F A) (a : A) → Sound v P → v ≡ parsed a → P a
-sound_is P v a is e = subst (λ w. Sound w P) e is
 
 -- no fault is found of what holds
 pub none_of : (b : Bool) (fault : Fault) → b ≡ true → unless b fault ≡ []

@@ -1,13 +1,11 @@
 -- Forms of a domain and of a problem denote them exactly where they are read as them.
-use Rattle.std.proofs.Common.{◌≡◌, Bool, true, false, List, [], ◌∷◌, ◌++◌, length, map, Option, refl, ap, sym, ◌∙◌}
+use Rattle.std.proofs.Common.{◌≡◌, List, [], ◌++◌, length, Option, refl, ap, sym, ◌∙◌}
 use Rattle.std.specs.Cmp.Lexicographic.{bytes_decides}
-use Rattle.up_text.specs.declared.name.Name.{Name}
 use Rattle.up_text.specs.Names.{same_name}
-use Rattle.pddl_lex.specs.Parses.{Parse, parsed, rejected, before}
+use Rattle.pddl_lex.specs.Parses.{parsed, before}
 use Rattle.pddl_parse.specs.declared.raw.DomainForm.{DomainForm}
 use Rattle.pddl_parse.specs.declared.raw.ProblemForm.{ProblemForm}
 use Rattle.pddl_parse.proofs.Spelled.{Sound, sound_over, sound_two, sound_behind}
-use Rattle.up_tree.specs.declared.action.Action.{Action}
 use Rattle.up_tree.specs.declared.formula.Formula.{Formula}
 use Rattle.up_tree.specs.declared.problem.Constraint.{Constraint}
 use Rattle.up_tree.specs.declared.problem.Metric.{Metric}
@@ -17,14 +15,11 @@ use Rattle.up_phrase.specs.declared.term.Setting.TheVariants as setting
 use Rattle.up_phrase.specs.Conditions.{formula}
 use Rattle.up_phrase.specs.Declarations.{Declarations}
 use Rattle.up_phrase.specs.Named.{at}
-use Rattle.up_phrase.specs.Scopes.{typed}
 use Rattle.up_declare.specs.Declaring.{with_objects}
-use Rattle.up_check.specs.declared.lists.Initial.{Initial}
 use Rattle.up_check.specs.declared.problem.Stated.{Stated}
 use Rattle.up_check.specs.Constraints.{constraints}
 use Rattle.up_check.specs.Domains.{Known, declared, actions, known, domain_names}
 use Rattle.up_check.specs.Initial.{initial}
-use Rattle.up_check.specs.Lists.{predicate, function}
 use Rattle.up_check.specs.Metrics.{metric_of}
 use Rattle.up_check.specs.Problems.{wrong_domain, rules_and_metric, goal_on, stated, parts, in_names, objects_on, problem_names}
 use Rattle.grammar_names.specs.Phrases.{DenotesFormula}
@@ -34,14 +29,15 @@ use Rattle.grammar_names.specs.Initial.{DenoteInitial}
 use Rattle.grammar_names.specs.Constraints.{DenoteConstraints}
 use Rattle.grammar_names.specs.Metrics.{DenotesMetric}
 use Rattle.grammar_names.specs.Problems.{DenotesDomain, DenotesProblem}
-use Rattle.grammar_names.proofs.Parses.{sound_after, sound_as, sound_is, none_of, holds}
-use Rattle.grammar_names.proofs.Found.{found_sound}
+use Rattle.grammar_shapes.proofs.Parses.{sound_is}
+use Rattle.grammar_names.proofs.Parses.{sound_after, holds}
 use Rattle.grammar_names.proofs.Conditions.{formula_read, formula_denotes}
 use Rattle.grammar_names.proofs.Declares.{declared_read, declared_declare, objects_read, objects_declare}
 use Rattle.grammar_names.proofs.Actions.{actions_read, actions_denote}
 use Rattle.grammar_names.proofs.Initial.{initial_read, initial_denotes}
 use Rattle.grammar_names.proofs.Constraints.{constraints_read, constraints_denote}
 use Rattle.grammar_names.proofs.Metrics.{metric_read, metric_denotes}
+use Rattle.grammar_shapes.proofs.Walks.{sound_of}
 
 -- ---- domains
 
@@ -69,14 +65,14 @@ module _ (form : DomainForm) where
       (λ acts rules. record { name = form.name.name; declarations = names; actions = acts; constraints = rules })
       (actions names [] form.actions) (constraints names [] form.constraints)
       (λ acts rules are so. record { name = refl; declarations = declares; actions = are; constraints = so })
-      (found_sound (DenoteActions names form.actions) (actions names [] form.actions) (actions_denote names form.actions))
-      (found_sound (DenoteConstraints names [] form.constraints) (constraints names [] form.constraints)
+      (sound_of (DenoteActions names form.actions) (actions names [] form.actions) (actions_denote names form.actions))
+      (sound_of (DenoteConstraints names [] form.constraints) (constraints names [] form.constraints)
       (constraints_denote names [] form.constraints))
 
   domain_sound : Sound (domain_names form) (DenotesDomain form)
   domain_sound =
       sound_after (DeclareAll form) (DenotesDomain form) (declared form) (known form)
-      (found_sound (DeclareAll form) (declared form) (declared_declare form)) known_sound
+      (sound_of (DeclareAll form) (declared form) (declared_declare form)) known_sound
 
   pub domain_denotes : (domain : Known) → domain_names form ≡ parsed domain → DenotesDomain form domain
   domain_denotes domain e = sound_is (DenotesDomain form) (domain_names form) domain domain_sound e
@@ -99,7 +95,7 @@ module _ (domain : Known) (form : ProblemForm) where
       ) (ap parsed (ap (λ name. record (parts (length domain.declarations.objects) domain.actions form d.names (said problem d))
       { domain = name }) d.names_domain ∙ sym d.parts))
 
-  -- what the sections behind the objects state
+  -- what the sections after the objects state
   record IsStated (names : Declarations) (it : Stated) : Type 0 where
     initial : DenoteInitial names form.init it.init
     goal : DenotesFormula names [] setting.Plain form.goal it.goal
@@ -124,7 +120,7 @@ module _ (domain : Known) (form : ProblemForm) where
         sound_over (DenoteConstraints names [] form.constraints) (AreRules names) (λ own. domain.constraints ++ own)
         (constraints names [] form.constraints)
         (λ own are. (own, are, refl))
-        (found_sound (DenoteConstraints names [] form.constraints) (constraints names [] form.constraints)
+        (sound_of (DenoteConstraints names [] form.constraints) (constraints names [] form.constraints)
         (constraints_denote names [] form.constraints))
 
     last_sound : Sound (rules_and_metric names domain.constraints form) (AreLast names)
@@ -132,14 +128,14 @@ module _ (domain : Known) (form : ProblemForm) where
         sound_two (AreRules names) (DenotesMetric names form.metric) (AreLast names) (λ all m. (all, m))
         (before domain.constraints (constraints names [] form.constraints)) (metric_of names form.metric) (λ all m are is. (are, is))
         rules_sound
-        (found_sound (DenotesMetric names form.metric) (metric_of names form.metric) (metric_denotes names form.metric))
+        (sound_of (DenotesMetric names form.metric) (metric_of names form.metric) (metric_denotes names form.metric))
 
     goal_sound : Sound (goal_on names domain.constraints form) (AreAfterInit names)
     goal_sound =
         sound_two (DenotesFormula names [] setting.Plain form.goal) (AreLast names) (AreAfterInit names)
         (λ goal more. (goal, more.0, more.1))
         (formula names [] setting.Plain form.goal) (rules_and_metric names domain.constraints form) (λ goal more is are. (is, are.0, are.1))
-        (found_sound (DenotesFormula names [] setting.Plain form.goal) (formula names [] setting.Plain form.goal)
+        (sound_of (DenotesFormula names [] setting.Plain form.goal) (formula names [] setting.Plain form.goal)
         (formula_denotes names [] setting.Plain form.goal))
         last_sound
 
@@ -149,7 +145,7 @@ module _ (domain : Known) (form : ProblemForm) where
         (λ init more. record { init = init; goal = more.0; constraints = more.1; metric = more.2 }) (initial names form.init)
         (goal_on names domain.constraints form)
         (λ init more is are. record { initial = is; goal = are.0; own = are.1.0; rules = are.1.1; behind = are.1.2; metric = are.2 })
-        (found_sound (DenoteInitial names form.init) (initial names form.init) (initial_denotes names form.init)) goal_sound
+        (sound_of (DenoteInitial names form.init) (initial names form.init) (initial_denotes names form.init)) goal_sound
 
     parts_denoted : form.domain.name ≡ domain.name → DeclareObjects form.objects domain.declarations names → (it : Stated)
         → IsStated names it
@@ -176,7 +172,7 @@ module _ (domain : Known) (form : ProblemForm) where
       sound_after (DeclareObjects form.objects domain.declarations) (DenotesProblem domain form)
       (with_objects form.objects domain.declarations)
       (in_names (length domain.declarations.objects) domain.actions domain.constraints form)
-      (found_sound (DeclareObjects form.objects domain.declarations) (with_objects form.objects domain.declarations)
+      (sound_of (DeclareObjects form.objects domain.declarations) (with_objects form.objects domain.declarations)
       (objects_declare form.objects domain.declarations))
       (λ names objects.
       sound_over (IsStated names) (DenotesProblem domain form) (parts (length domain.declarations.objects) domain.actions form names)

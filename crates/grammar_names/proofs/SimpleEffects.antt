@@ -2,7 +2,7 @@
 use Rattle.std.proofs.Common.{◌≡◌, List, Option, Some, None, refl}
 use Rattle.up_text.specs.declared.name.Name.{Name}
 use Rattle.up_text.specs.declared.place.Place.{Place}
-use Rattle.pddl_lex.specs.Parses.{Parse, parsed, rejected, over, followed}
+use Rattle.pddl_lex.specs.Parses.{parsed, over, followed}
 use Rattle.pddl_parse.specs.declared.raw.RawCall.{RawCall}
 use Rattle.pddl_parse.specs.declared.raw.RawChange.{RawChange}
 use Rattle.pddl_parse.specs.declared.raw.RawChange.TheVariants as stated
@@ -29,11 +29,7 @@ use Rattle.grammar_names.specs.Effects.{DenotesTarget, DenotesSimple, of_add, of
 use Rattle.grammar_names.proofs.Terms.{arguments_read, arguments_denote, term_read, term_denotes}
 use Rattle.grammar_names.proofs.Exprs.{expr_read, expr_denotes}
 use Rattle.grammar_names.proofs.Conditions.{atom_read, atom_denotes}
-
--- what holds wherever something is read holds of what is read
-pub all_sound : {F A : Type 0} (P : A → Type 0) (v : Parse F A) → ((a : A) → v ≡ parsed a → P a) → Sound v P
-all_sound P (parsed a) h = h a refl
-all_sound P (rejected f fs) h = tt
+use Rattle.grammar_shapes.proofs.Walks.{sound_of}
 
 module _ (names : Declarations) (vars : Variables) where
   abbrev Atom : RawCall → List Term → Type 0
@@ -83,7 +79,7 @@ module _ (names : Declarations) (vars : Variables) where
   -- ---- what is read is denoted
 
   atom_sound : (it : RawCall) → Sound (atom names vars it) (Atom it)
-  atom_sound it = all_sound (Atom it) (atom names vars it) (λ ts e. atom_denotes names vars Plain it.place it.name it.args ts e)
+  atom_sound it = sound_of (Atom it) (atom names vars it) (λ ts e. atom_denotes names vars Plain it.place it.name it.args ts e)
 
   pub added_sound : (it : RawCall) → Sound (added names vars it) (DenotesSimple names vars (raw.Add it))
   added_sound it =
@@ -98,7 +94,7 @@ module _ (names : Declarations) (vars : Variables) where
   target_sound : (given : Gives) (it : RawCall) (function : Signature) → function_of names it.name.name ≡ Some function → function.gives ≡ given
       → Sound (target_args names vars it (parsed function.args)) (Target given it)
   target_sound given it function is so =
-      all_sound (Target given it) (target_args names vars it (parsed function.args))
+      sound_of (Target given it) (target_args names vars it (parsed function.args))
       (λ ts e. record {
         function = function;
         declared = is;
@@ -107,10 +103,10 @@ module _ (names : Declarations) (vars : Variables) where
       })
 
   expr_sound : (value : RawTerm) → Sound (expr names vars Plain value) (DenotesExpr names vars Plain value)
-  expr_sound value = all_sound (DenotesExpr names vars Plain value) (expr names vars Plain value) (λ e so. expr_denotes names vars Plain value e so)
+  expr_sound value = sound_of (DenotesExpr names vars Plain value) (expr names vars Plain value) (λ e so. expr_denotes names vars Plain value e so)
 
   term_sound : (due : Option Name) (value : RawTerm) → Sound (term names vars Plain value due) (DenotesTerm names vars Plain due value)
-  term_sound due value = all_sound (DenotesTerm names vars Plain due value) (term names vars Plain value due) (λ t e. term_denotes names vars Plain due value t e)
+  term_sound due value = sound_of (DenotesTerm names vars Plain due value) (term names vars Plain value due) (λ t e. term_denotes names vars Plain due value t e)
 
   number_sound : (c : RawChange) (it : RawCall) (value : RawTerm) (function : Signature) → function_of names it.name.name ≡ Some function
       → function.gives ≡ gives.Number → Sound (number_changed names vars (change_of c) it value (parsed function.args)) (Simple (raw.Change c it value))

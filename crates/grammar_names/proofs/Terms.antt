@@ -26,7 +26,8 @@ use Rattle.up_phrase.specs.Walks.{unless}
 use Rattle.grammar_names.specs.Phrases.{DenotesTerm, an_object, a_variable, an_object_value, DenoteArguments, no_arguments, more_arguments}
 use Rattle.up_phrase.proofs.TermNodes.{term-Call}
 use Rattle.grammar_names.proofs.Nodes.{call_built, terms-items}
-use Rattle.grammar_names.proofs.Parses.{sound_as, sound_after, sound_is, none_of, holds, none_behind, none_before, same_number, same_length}
+use Rattle.grammar_shapes.proofs.Parses.{sound_map, sound_is}
+use Rattle.grammar_names.proofs.Parses.{sound_after, none_of, holds, none_behind, none_before, same_number, same_length}
 
 module _ (names : Declarations) (vars : Variables) (s : Setting) where
   abbrev Denotes : Option Name → RawTerm → Term → Type 0
@@ -146,7 +147,7 @@ module _ (names : Declarations) (vars : Variables) (s : Setting) where
       (sound_after (GivesDue due f) (λ ts. (types : List Name) × GivesDue due f types × Denote types args ts)
       (object_function names s place f due (function_of names f.name)) (arguments place f.name (map (term names vars s) args))
       (function_sound due place f (function_of names f.name) refl) (λ types given.
-      sound_as (Denote types args) (λ ts. (types : List Name) × GivesDue due f types × Denote types args ts) _ (λ ts of. (types, given, of))
+      sound_map (Denote types args) (λ ts. (types : List Name) × GivesDue due f types × Denote types args ts) _ (λ ts of. (types, given, of))
       (arguments_sound place f.name types args are)))
 
   mutual

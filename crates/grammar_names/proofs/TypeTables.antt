@@ -1,5 +1,5 @@
 -- Tables of types, with one more type after the other.
-use Rattle.std.proofs.Common.{◌≡◌, ◌+◌, Bool, true, false, true≢false, ◌||◌, if◌then◌else◌, List, [], ◌∷◌, ◌++◌, map, Option, Some, None, append_assoc, append-nil, refl, ap, sym, ◌∙◌, subst, inl, inr}
+use Rattle.std.proofs.Common.{◌≡◌, Bool, true, false, true≢false, ◌||◌, if◌then◌else◌, List, [], ◌∷◌, ◌++◌, map, Option, Some, None, append_assoc, append-nil, refl, ap, sym, ◌∙◌, subst, inl, inr}
 use Rattle.std.specs.Prelude.{is_some}
 use Rattle.std.specs.Cmp.Lexicographic.{bytes_decides}
 use Rattle.up_text.specs.declared.name.Name.{Name}

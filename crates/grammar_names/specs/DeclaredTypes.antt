@@ -37,7 +37,7 @@ pub data EachOnce : Parents → Parents → Parents → Type 0 where
       → name ≢ object → (¬ Member name (map (λ type. type.0) before)) → EachOnce (before ++ (name, parent) ∷ []) types kept
       → EachOnce before ((name, parent) ∷ types) ((name, parent) ∷ kept)
 
--- A list of types declares types with their parents: those that are listed, and behind them those that stand only as parents.
+-- A list of types declares types with their parents: those that are listed, and after them those that stand only as parents.
 pub record DeclareTypes (groups : List RawGroup) (types : Parents) : Type 0 where
   -- a type may be listed again, but not under another parent
   pub one_parent : (name one two : Name) → Member (name, one) (listed groups) → Member (name, two) (listed groups) → one ≡ two

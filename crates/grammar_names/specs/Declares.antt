@@ -18,7 +18,7 @@ use Rattle.grammar_names.specs.DeclaredTypes.{DeclareTypes}
 
 -- ---- constants and objects
 
--- names are declared as objects of one type, each behind those that are declared
+-- names are declared as objects of one type, each after those that are declared
 pub data DeclareNames (of : Name) : List Ident → Declarations → Declarations → Type 0 where
   no_names : (names : Declarations) → DeclareNames of [] names names
   new_name : (it : Ident) (others : List Ident) (names more : Declarations)
@@ -48,7 +48,7 @@ pub record IsNewSymbol (names : Declarations) (symbol : RawSymbol) (types : List
   pub no_function : function_of names symbol.name.name ≡ None
   pub parameters : HaveTypes names symbol.params types
 
--- predicates, each behind those that are declared
+-- predicates, each after those that are declared
 pub data DeclarePredicates : List RawSymbol → Declarations → Declarations → Type 0 where
   no_predicates : (names : Declarations) → DeclarePredicates [] names names
   more_predicates : (symbol : RawSymbol) (types : List Name) (others : List RawSymbol) (names more : Declarations)
@@ -60,7 +60,7 @@ pub data GiveValues (names : Declarations) : RawGives → Gives → Type 0 where
   numbers : GiveValues names stated.Number gives.Number
   objects : (of : Ident) → is_type names of.name ≡ true → GiveValues names (stated.Object of) (gives.Object of.name)
 
--- functions that give the same, each behind those that are declared
+-- functions that give the same, each after those that are declared
 pub data DeclareGiving (g : Gives) : List RawSymbol → Declarations → Declarations → Type 0 where
   no_symbols : (names : Declarations) → DeclareGiving g [] names names
   more_symbols : (symbol : RawSymbol) (types : List Name) (others : List RawSymbol) (names more : Declarations)

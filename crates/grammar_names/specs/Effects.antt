@@ -77,7 +77,7 @@ mutual
         → Enters names (bound_in conditions) groups (params ++ bound) (params ++ bound ++ added)
         → DenotesEffect names params (bound ++ added) conditions body rows
         → DenotesEffect names params bound conditions (raw.Forall groups body) rows
-    -- the condition stands behind those around it, unless it is the empty `and`
+    -- the condition stands after those around it, unless it is the empty `and`
     of_when : (bound : Variables) (conditions : List Formula) (condition : RawFormula) (f : Formula) (body : RawEffect) (rows : List Row)
         → DenotesFormula names (params ++ bound) Plain condition f
         → DenotesEffect names params bound (whens_and conditions f) body rows

@@ -1,14 +1,10 @@
-pub mod DeclareLaws
 pub mod Declares
 pub mod DeclaredTypes
-pub mod DeclaredTypeLaws
 pub mod Phrases
 pub mod Initial
 pub mod Constraints
 pub mod Metrics
 pub mod Effects
+pub mod Around
 pub mod Actions
-pub mod ActionLaws
-pub mod ProblemLaws
-pub mod PhraseLaws
 pub mod Problems

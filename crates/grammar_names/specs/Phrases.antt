@@ -112,7 +112,7 @@ mutual
         → DenotesFormula names vars s raw f → DenotesFormula names vars s (form.Not raw) (Not f)
     of_imply : (vars : Variables) (s : Setting) (one two : RawFormula) (f g : Formula)
         → DenotesFormula names vars s one f → DenotesFormula names vars s two g → DenotesFormula names vars s (form.Imply one two) (Imply f g)
-    -- a quantifier brings its variables into scope behind those that are there
+    -- a quantifier brings its variables into scope after those that are there
     of_exists : (vars added : Variables) (s : Setting) (groups : List RawGroup) (raw : RawFormula) (f : Formula)
         → Enters names [] groups vars (vars ++ added) → DenotesFormula names (vars ++ added) s raw f
         → DenotesFormula names vars s (form.Exists groups raw) (Exists (map typed added) f)

@@ -1,10 +1,8 @@
 -- What the forms of a domain and of a problem denote, said apart from how they are checked.
-use Rattle.std.specs.Prelude.{◌≡◌, List, [], ◌++◌, length, map, Option}
+use Rattle.std.specs.Prelude.{◌≡◌, List, [], ◌++◌, length, map}
 use Rattle.pddl_parse.specs.declared.raw.DomainForm.{DomainForm}
 use Rattle.pddl_parse.specs.declared.raw.ProblemForm.{ProblemForm}
-use Rattle.up_tree.specs.declared.formula.Formula.{Formula}
 use Rattle.up_tree.specs.declared.problem.Constraint.{Constraint}
-use Rattle.up_tree.specs.declared.problem.Metric.{Metric}
 use Rattle.up_tree.specs.declared.problem.Parts.{Parts}
 use Rattle.up_phrase.specs.Declarations.{Declarations}
 use Rattle.up_phrase.specs.declared.term.Setting.TheVariants as setting
@@ -26,7 +24,7 @@ pub record DenotesDomain (form : DomainForm) (it : Known) : Type 0 where
   pub actions : DenoteActions it.declarations form.actions it.actions
   pub constraints : DenoteConstraints it.declarations [] form.constraints it.constraints
 
--- A problem of a known domain, which it names. Its objects are declared behind the domain's constants.
+-- A problem of a known domain, which it names. Its objects are declared after the domain's constants.
 pub record DenotesProblem (domain : Known) (form : ProblemForm) (it : Parts) : Type 0 where
   pub names_domain : form.domain.name ≡ domain.name
   -- what the domain and the problem's objects declare

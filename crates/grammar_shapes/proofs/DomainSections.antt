@@ -214,7 +214,7 @@ in_section_sound before place (head ∷ trees) = named_sound (keyword_of head) b
 domain_section_sound : (before : List Sexp) (tree : Sexp) → Sound (domain_section before tree) (IsNext before tree)
 domain_section_sound before tree = sound_bracket (IsNext before) (in_domain_section before) (in_section_sound before) tree
 
--- sections, none of which is behind another of its keyword
+-- sections, none of which is after another of its keyword
 abbrev pub AreNext : List Sexp → List Sexp → List DomainSection → Type 0
 AreNext before trees ss =
     AreDomainSections trees ss × ((word : List ℕ) → word ≢ codes "action" → AtMostOnce word before → AtMostOnce word (before ++ trees))

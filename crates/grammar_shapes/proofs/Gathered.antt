@@ -56,7 +56,7 @@ same_said kind ss _ _ one (said a is) (unsaid never) = absurd (never a is)
 same_said kind ss _ _ one (unsaid never) (said b so) = absurd (never b so)
 same_said kind ss _ _ one (unsaid never) (unsaid nor) = refl
 
-or_there : (a b : Bool) → b ≡ true → (a || b) ≡ true
+pub or_there : (a b : Bool) → b ≡ true → (a || b) ≡ true
 or_there true b e = refl
 or_there false b e = e
 

@@ -88,7 +88,7 @@ or_first : (a b : Bool) → a ≡ true → (a || b) ≡ false → ⊥
 or_first true b is e = cc
 or_first false b is e = cc
 
-or_second : (a b : Bool) → (a || b) ≡ false → b ≡ false
+pub or_second : (a b : Bool) → (a || b) ≡ false → b ≡ false
 or_second true b e = cc
 or_second false b e = e
 

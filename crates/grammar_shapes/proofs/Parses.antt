@@ -44,7 +44,7 @@ sound_all P R f none more each (x ∷ xs) =
     sound_two (P x) (R xs) (R (x ∷ xs)) (λ a bs. a ∷ bs) (f x) (all (map f xs)) (λ a bs is others. more x a xs bs is others) (each x)
     (sound_all P R f none more each xs)
 
--- one tree that is made into a form, and none behind it
+-- one tree that is made into a form, and none after it
 pub sound_one : {A B : Type 0} (P : Sexp → A → Type 0) (Q : List Sexp → B → Type 0) (place : Place) (g : A → B) (f : Sexp → Read A)
     → ((tree : Sexp) (a : A) → P tree a → Q (tree ∷ []) (g a)) → ((tree : Sexp) → Sound (f tree) (P tree))
     → (trees : List Sexp) → Sound (followed (over g (one place (map f trees))) (extra (drop 1 trees))) (Q trees)
@@ -54,7 +54,7 @@ sound_one P Q place g f made each (x ∷ []) =
 sound_one P Q place g f made each (x ∷ y ∷ others) =
     sound_followed (Q (x ∷ y ∷ others)) (over g (f x)) (extra (y ∷ others)) (λ ended. let e : extra (y ∷ others) ≡ [] = ended in cc)
 
--- two trees, each read by its own kind, and none behind them
+-- two trees, each read by its own kind, and none after them
 pub sound_pair : {A B C : Type 0} (P : Sexp → A → Type 0) (Q : Sexp → B → Type 0) (R : List Sexp → C → Type 0) (place : Place)
     (g : A → B → C) (f : Sexp → Read A) (h : Sexp → Read B)
     → ((x y : Sexp) (a : A) (b : B) → P x a → Q y b → R (x ∷ y ∷ []) (g a b))

@@ -197,7 +197,7 @@ in_section_sound before place (head ∷ trees) = named_sound (keyword_of head) b
 problem_section_sound : (before : List Sexp) (tree : Sexp) → Sound (problem_section before tree) (IsNext before tree)
 problem_section_sound before tree = sound_bracket (IsNext before) (in_problem_section before) (in_section_sound before) tree
 
--- sections, none of which is behind another of its keyword
+-- sections, none of which is after another of its keyword
 abbrev pub AreNext : List Sexp → List Sexp → List ProblemSection → Type 0
 AreNext before trees ss = AreProblemSections trees ss × ((word : List ℕ) → AtMostOnce word before → AtMostOnce word (before ++ trees))
 

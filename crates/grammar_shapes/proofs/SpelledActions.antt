@@ -28,7 +28,7 @@ use Rattle.grammar_shapes.proofs.ActionKeys.{key_text, IsKeyword, IsFresh, fresh
 use Rattle.grammar_shapes.proofs.Conditions.{condition_sound}
 use Rattle.grammar_shapes.proofs.Effects.{whole_effect_sound}
 
--- what these trees spell where these parts are read of them behind these keys
+-- what these trees spell where these parts are read of them after these keys
 record AreSpelled (keys : ActionKeys) (trees : List Sexp) (ps : List ActionPart) : Type 0 where
   params : Option (List RawGroup)
   pre : Option RawFormula

@@ -28,7 +28,7 @@ use Rattle.pddl_parse.proofs.SpelledLists.{minus_is, list_sound}
 use Rattle.grammar_shapes.specs.Symbols.{IsSymbol, a_symbol, AreSymbols, no_symbols, more_symbols, ArePredicates, IsFunctionType, gives_numbers, gives_objects, AreFunctions, no_functions, untyped_functions, typed_functions}
 use Rattle.grammar_shapes.proofs.Parses.{sound_is, sound_if, sound_all, sound_bracket, is_word_is, ident_unlike, none_before}
 
--- ---- parameters behind a name
+-- ---- parameters after a name
 
 not_short : (b : Bool) (place : Place) (items : List Sexp) → short b place items ≡ [] → b ≡ false
 not_short true place items e = cc

@@ -19,7 +19,7 @@ pub data IsCondition : Sexp → RawFormula → Type 0 where
   a_condition : (tree : Sexp) (f : RawFormula) → IsFormula tree f → IsCondition tree f
 
 -- keywords in any order, each followed by its value, and the parameters, the precondition and the effect that they state:
--- `None` says that a keyword doesn't stand among them, as behind a keyword that same keyword doesn't
+-- `None` says that a keyword doesn't stand among them, as after a keyword that same keyword doesn't
 pub data AreKeys : List Sexp → Option (List RawGroup) → Option RawFormula → Option RawEffect → Type 0 where
   no_keys : AreKeys [] None None None
   with_parameters : (at vars_at : Place) (vars : List Sexp) (groups : List RawGroup) (rest : List Sexp)
@@ -33,7 +33,7 @@ pub data AreKeys : List Sexp → Option (List RawGroup) → Option RawFormula �
       → IsWholeEffect tree e → AreKeys rest params pre None
       → AreKeys (leaf (kind.Keyword (codes "effect")) at ∷ tree ∷ rest) params pre (Some e)
 
--- what stands behind `:action`: a name, then keywords, where no parameters, `(and)` and no effect stand for what is left out
+-- what stands after `:action`: a name, then keywords, where no parameters, `(and)` and no effect stand for what is left out
 pub data IsAction : List Sexp → RawAction → Type 0 where
   an_action : (head : Sexp) (name : Ident) (rest : List Sexp)
       (params : Option (List RawGroup)) (pre : Option RawFormula) (e : Option RawEffect)

@@ -1,18 +1,9 @@
 //! Laws of pass 2: which bracket trees spell which raw forms, and that they are read so exactly.
 #![tactic(auto)]
 
-mod action;
-mod constraint;
-mod effect;
-mod list;
-mod start;
-mod symbol;
-mod text;
+mod laws;
 
-pub use action::{action_law, condition_law};
-pub use constraint::constraint_law;
-pub use effect::{call_law, effect_law, whole_effect_law};
-pub use list::typed_list_law;
-pub use start::{init_law, inits_law, metric_law};
-pub use symbol::{functions_law, predicates_law};
-pub use text::{domain_law, problem_law};
+pub use laws::{
+    action_law, call_law, condition_law, constraint_law, domain_law, effect_law, functions_law,
+    init_law, inits_law, metric_law, predicates_law, problem_law, typed_list_law, whole_effect_law,
+};

@@ -1,7 +1,7 @@
 -- Two texts have one first fault at most.
-use Rattle.std.proofs.Common.{◌≡◌, ℕ, List, [], Some, refl, ap, sym, ◌∙◌}
+use Rattle.std.proofs.Common.{◌≡◌, ℕ, List, [], Some, ap, sym, ◌∙◌}
 use Rattle.pddl_lex.specs.declared.tree.Sexp.{Sexp}
-use Rattle.pddl_lex.specs.Faults.{faults_to_depth, first_of}
+use Rattle.pddl_lex.specs.Faults.{faults_to_depth}
 use Rattle.pddl_lex.specs.Parses.{Parse, parsed, first}
 use Rattle.pddl_lex.proofs.Nested.{trees_one}
 use Rattle.pddl_parse.specs.Shapes.{Read}
@@ -12,7 +12,7 @@ use Rattle.up_check.specs.declared.refusal.File.TheVariants as file
 use Rattle.up_check.specs.declared.refusal.ReadError.{ReadError}
 use Rattle.up_check.specs.Domains.{domain_names}
 use Rattle.up_check.specs.Problems.{problem_names}
-use Rattle.up_check.specs.Refusals.{bytes_refused, shape_refused, refused}
+use Rattle.up_check.specs.Refusals.{shape_refused, refused}
 use Rattle.up_check.specs.Passes.{FirstFault, FormStops, HasTrees, ReadsAs, Stops}
 
 parsed_one : {F A : Type 0} (v : Parse F A) (a b : A) → v ≡ parsed a → v ≡ parsed b → a ≡ b

@@ -11,7 +11,7 @@ use Rattle.grammar_shapes.proofs.Domains as domains
 use Rattle.grammar_shapes.proofs.Problems as problems
 use Rattle.grammar_names.proofs.ProblemForms as names
 use Rattle.grammar_texts.specs.Spelled.{SpellsDomain, SpellsProblem, TextsSpell}
-use Rattle.grammar_texts.specs.Laws.{SpellsOrStops, spells, stops}
+use Rattle.grammar_texts.specs.Spelled.{SpellsOrStops, spells, stops}
 
 domain_is_read : (text : List ℕ) (known : Known) → SpellsDomain text known → ReadsAs texts.domain domain_names text known
 domain_is_read text known s =

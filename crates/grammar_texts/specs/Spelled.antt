@@ -7,7 +7,9 @@ use Rattle.pddl_parse.specs.declared.raw.DomainForm.{DomainForm}
 use Rattle.pddl_parse.specs.declared.raw.ProblemForm.{ProblemForm}
 use Rattle.grammar_shapes.specs.Texts.{IsDomain, IsProblem}
 use Rattle.up_tree.specs.declared.problem.Parts.{Parts}
+use Rattle.up_check.specs.declared.refusal.ReadError.{ReadError}
 use Rattle.up_check.specs.Domains.{Known}
+use Rattle.up_check.specs.Passes.{AreShallow, FirstFault}
 use Rattle.grammar_names.specs.Problems.{DenotesDomain, DenotesProblem}
 
 -- a text spells a domain
@@ -31,3 +33,8 @@ pub record TextsSpell (domain problem : List ℕ) (parts : Parts) : Type 0 where
   pub known : Known
   pub of_domain : SpellsDomain domain known
   pub of_problem : SpellsProblem known problem parts
+
+-- two texts spell a problem and open no bracket too deep, or they have a first fault
+pub data SpellsOrStops (domain problem : List ℕ) : Type 0 where
+  spells : (parts : Parts) → TextsSpell domain problem parts → AreShallow domain problem → SpellsOrStops domain problem
+  stops : (refusal : ReadError) → FirstFault domain problem refusal → SpellsOrStops domain problem

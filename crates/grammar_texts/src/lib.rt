@@ -1,4 +1,4 @@
-//! Laws of reading, pass by pass: what two texts spell, and at which fault they stop.
+//! Laws of reading, all passes together: what two texts spell, and at which fault they stop.
 #![tactic(auto)]
 
 mod laws;

@@ -49,7 +49,7 @@ nested_trees _ _ (group place end inner rest inside trees b c) items groups memb
     ∙ ap (nested is_never_deep items) (same_nest groups _ _ (append_assoc members (Group place inside ∷ []) trees))
 
 -- the trees of two rows of tokens
-trees_append : (one : List Token) (xs : List Sexp) → Bracketed one xs → (two : List Token) (ys : List Sexp) → Bracketed two ys → Bracketed (one ++ two) (xs ++ ys)
+pub trees_append : (one : List Token) (xs : List Sexp) → Bracketed one xs → (two : List Token) (ys : List Sexp) → Bracketed two ys → Bracketed (one ++ two) (xs ++ ys)
 trees_append _ _ nothing two ys b = b
 trees_append _ _ (leaf token rest trees is a) two ys b = leaf token (rest ++ two) (trees ++ ys) is (trees_append rest trees a two ys b)
 trees_append _ _ (group place end inner rest members trees a c) two ys b =

@@ -15,7 +15,7 @@ use Rattle.up_tree.specs.declared.problem.Parts.{Parts}
 use Rattle.up_tree.specs.Nodes.{not, imply, exists, forall, built}
 use Rattle.up_tree.specs.Objects.{predicate_named}
 use Rattle.up_tree.specs.WellFormed as tree
-use Rattle.up_tree.specs.WellFormed.{AreFormulas, AreVariables, TermsFit}
+use Rattle.up_tree.specs.WellFormed.{AreFormulas, AreVariables, TermsFit, IsFormula}
 use Rattle.pddl_lex.specs.Parses.{parsed, over, all}
 use Rattle.pddl_parse.specs.declared.raw.Ident.{Ident}
 use Rattle.pddl_parse.specs.declared.raw.RawGroup.{RawGroup}
@@ -32,9 +32,8 @@ use Rattle.up_phrase.specs.Scopes.{Variables}
 use Rattle.up_phrase.specs.Terms.{term}
 use Rattle.up_phrase.proofs.FormulaNodes.{formula-And, formula-Or, formula-Not, formula-Imply, formula-Exists, formula-Forall, formula-Atom, formula-Compare}
 use Rattle.roundtrip_tokens.proofs.Named.{found_and}
-use Rattle.written_forms.specs.Raw.{at, empty, first, AreRawGroups, AreRawTerms, an_and, an_or, a_not, an_imply, an_exists, a_forall, an_atom, a_compare, raw_relation, IsRawFormula, AreRawMembers}
-use Rattle.roundtrip_names.specs.Agree.{entry, Agree, SameScope, TypesWritten}
-use Rattle.roundtrip_names.specs.Laws.{ConditionsAreNamed}
+use Rattle.roundtrip_shapes.specs.Raw.{at, empty, first, AreRawGroups, AreRawTerms, an_and, an_or, a_not, an_imply, an_exists, a_forall, an_atom, a_compare, raw_relation, IsRawFormula, AreRawMembers}
+use Rattle.roundtrip_names.specs.Declared.{entry, Declares, SameScope, TypesWritten}
 use Rattle.roundtrip_names.proofs.Found.{predicate_found}
 use Rattle.roundtrip_names.proofs.Terms.{applied_read, term_read, terms_read}
 use Rattle.roundtrip_names.proofs.Exprs.{term_not_numeric, expr_numeric, expr_read}
@@ -81,7 +80,7 @@ no_equality names relation.Same left is = rw is refl
 no_equality names relation.GreaterEqual left is = refl
 no_equality names relation.Greater left is = refl
 
-module _ (names : Declarations) (p : Parts) (objects : List Typed) (agree : Agree names p objects) (written : Bool) (all_written : TypesWritten written p) where
+module _ (names : Declarations) (p : Parts) (objects : List Typed) (agree : Declares names p objects) (written : Bool) (all_written : TypesWritten written p) where
   -- what is declared of a predicate of the problem
   pub predicate_read : (it : Ident) (d : Predicate) → predicate_named p it.name ≡ Some d → predicate it (predicate_of names it.name) ≡ parsed d.args
   predicate_read it d here = ap (predicate it) (predicate_found names p objects agree it.name ∙ ap (option_map (λ (d : Predicate). d.args)) here)
@@ -147,5 +146,7 @@ module _ (names : Declarations) (p : Parts) (objects : List Typed) (agree : Agre
     members_read (more_of-Formula f fs) scope vars same is _ (first x raws so are) =
         rw (formula_read f scope vars same is.0 x so, members_read fs scope vars same is.1 raws are) refl
 
-pub conditions_are_named : ConditionsAreNamed
+pub conditions_are_named : (names : Declarations) (p : Parts) (objects : List Typed) → Declares names p objects → (typed : Bool) → TypesWritten typed p
+    → (scope : List Typed) (vars : Variables) → SameScope scope vars
+    → (f : Formula) → IsFormula p objects scope f → (raw : RawFormula) → IsRawFormula typed f raw → formula names vars Plain raw ≡ parsed f
 conditions_are_named names p objects agree written all_written scope vars same f is raw so = formula_read names p objects agree written all_written f scope vars same is raw so

@@ -13,10 +13,11 @@ use Rattle.up_phrase.specs.Declarations.{Declarations}
 use Rattle.up_phrase.specs.Named.{object}
 use Rattle.up_phrase.specs.Walks.{in_turn}
 use Rattle.up_declare.specs.Declaring.{with_object, with_objects}
-use Rattle.written_forms.specs.Raw.{at, AreRawNames, no_names, more_names, AreRawGroups, no_groups, more_groups, one_group}
-use Rattle.roundtrip_names.specs.Agree.{entry, TypesWritten}
-use Rattle.roundtrip_names.specs.Laws.{ObjectsAreNamed}
+use Rattle.roundtrip_shapes.specs.Raw.{at, AreRawNames, no_names, more_names, AreRawGroups, no_groups, more_groups, one_group}
+use Rattle.roundtrip_names.specs.Declared.{entry, TypesWritten, and_objects}
 use Rattle.roundtrip_names.proofs.Entered.{Free, still_free, type_listed, only_top, all_top}
+use Rattle.std.specs.Prelude.{None}
+use Rattle.up_phrase.specs.Lookups.{type_of}
 
 abbrev with_entries : Declarations → List (Name × Name) → Declarations
 with_entries names more = record { types = names.types; objects = names.objects ++ more; predicates = names.predicates; functions = names.functions }
@@ -46,5 +47,7 @@ objects_declared p _ all (v ∷ new) _ names listed (more_groups _ _ _ _ groups 
 objects_declared p _ all (v ∷ new) _ names listed (one_group _ _ idents are) free differ types =
     rw (names_declared object (v ∷ new) idents names are free differ) (ap (λ es. parsed (with_entries names es)) (all_top (v ∷ new) (only_top p (all refl) (v ∷ new) types)))
 
-pub objects_are_named : ObjectsAreNamed
+pub objects_are_named : (p : Parts) (typed : Bool) → TypesWritten typed p → (new : List Typed) (groups : List RawGroup) (names : Declarations) → names.types ≡ map entry p.types
+    → AreRawGroups typed new groups → Every (λ o. type_of names o.name ≡ None) new → Differ (map (λ o. o.name) new) → Every (λ o. IsType p o.of) new
+    → with_objects groups names ≡ parsed (and_objects names new)
 objects_are_named p typed all new groups names listed so free differ types = objects_declared p typed all new groups names listed so free differ types

@@ -33,14 +33,14 @@ use Rattle.up_phrase.specs.Walks.{Checked}
 use Rattle.up_effect.specs.Effects.{Around, row, target_args, number_changed, assigned_by, assigned, changed, kept_number, undefined, simple, rows}
 use Rattle.up_effect.proofs.EffectNodes.{rows-Add, rows-Delete, rows-Change, rows-Undefine}
 use Rattle.roundtrip_tokens.proofs.Named.{found_and}
-use Rattle.written_forms.specs.Raw.{at, IsRawTerm, AreRawTerms, IsRawExpr}
-use Rattle.written_forms.specs.RawEffects.{raw_change, IsRawAt, at_args, an_add, a_delete, a_change, an_undefine, IsRawEffect}
-use Rattle.roundtrip_names.specs.Agree.{Agree, SameScope, TypesWritten}
+use Rattle.roundtrip_shapes.specs.Raw.{at, IsRawTerm, AreRawTerms, IsRawExpr}
+use Rattle.roundtrip_shapes.specs.RawEffects.{raw_change, IsRawAt, at_args, an_add, a_delete, a_change, an_undefine, IsRawEffect}
+use Rattle.roundtrip_names.specs.Declared.{Declares, SameScope, TypesWritten}
 use Rattle.roundtrip_names.proofs.Terms.{applied_read, term_read, terms_read}
 use Rattle.roundtrip_names.proofs.Exprs.{signature_found, numeric_read, expr_read}
 use Rattle.roundtrip_names.proofs.Conditions.{atom_read}
 
-module _ (names : Declarations) (p : Parts) (objects : List Typed) (agree : Agree names p objects) (written : Bool) (all_written : TypesWritten written p)
+module _ (names : Declarations) (p : Parts) (objects : List Typed) (agree : Declares names p objects) (written : Bool) (all_written : TypesWritten written p)
     (scope : List Typed) (vars : Variables) (same : SameScope scope vars) where
   target_read : (f : Name) (ts : List Term) (types : List Name) → TermsFit p objects scope ts types → (place there : Place) (args : List RawTerm) → AreRawTerms ts args
       → (declared : Checked (List Name)) → declared ≡ parsed types
@@ -109,7 +109,7 @@ module _ (names : Declarations) (p : Parts) (objects : List Typed) (agree : Agre
       given (gives.Object of) some = refl
 
 -- the row of a simple effect
-pub effect_read : (names : Declarations) (p : Parts) (objects : List Typed) (agree : Agree names p objects) (written : Bool) (all_written : TypesWritten written p)
+pub effect_read : (names : Declarations) (p : Parts) (objects : List Typed) (agree : Declares names p objects) (written : Bool) (all_written : TypesWritten written p)
     (scope : List Typed) (a : Around) → SameScope scope a.variables → (e : Effect) → IsEffect p objects scope e → (raw : RawEffect) → IsRawEffect e raw
     → rows names a raw ≡ parsed (row a e ∷ [])
 effect_read names p objects agree written all_written scope a same (effect.Add name ts) is _ (an_add _ (at_args place _ args (at there) are)) =

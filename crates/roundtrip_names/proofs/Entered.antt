@@ -21,11 +21,11 @@ use Rattle.up_phrase.specs.Declarations.{Declarations}
 use Rattle.up_phrase.specs.Lookups.{is_type}
 use Rattle.up_phrase.specs.Named.{object}
 use Rattle.up_phrase.specs.Scopes.{Variables, variable_type, entered, entered_groups, typed}
-use Rattle.written_forms.specs.Raw.{at, AreRawNames, no_names, more_names, AreRawGroups, no_groups, more_groups, one_group}
-use Rattle.roundtrip_names.specs.Agree.{entry, Agree, SameScope, TypesWritten}
+use Rattle.roundtrip_shapes.specs.Raw.{at, AreRawNames, no_names, more_names, AreRawGroups, no_groups, more_groups, one_group}
+use Rattle.roundtrip_names.specs.Declared.{entry, Declares, SameScope, TypesWritten}
 use Rattle.roundtrip_names.proofs.Found.{or_true, entry_found}
 
--- ---- one list behind another
+-- ---- one list after another
 
 unfoldable pub or_else : {X : Type 0} → Option X → Option X → Option X
 or_else None b = b
@@ -79,7 +79,7 @@ new_outside scope (v ∷ new) name fresh some = by (same_name v.name name) refl 
     by true same rest some = subst (λ n. type_in scope n ≡ None) ((bytes_decides v.name name).0 same) (none_typed scope v.name fresh.0)
     by false same rest some = rest some
 
--- the scope of a tree with the new variables in front is that of the walk with them behind
+-- the scope of a tree with the new variables in front is that of the walk with them after
 pub scope_grown : (scope new : List Typed) (vars : Variables) → SameScope scope vars → Every (λ v. ¬ Member v.name (map (λ w. w.name) scope)) new
     → SameScope (new ++ scope) (vars ++ map entry new)
 scope_grown scope new vars same fresh name =
@@ -150,7 +150,7 @@ only_top p none (v ∷ new) types = (by types.0, only_top p none new types.1)
     by (inl top) = top
     by (inr some) = absurd (false≢true (subst (λ ts. IsSome (named ts v.of)) none some))
 
-module _ (names : Declarations) (p : Parts) (objects : List Typed) (agree : Agree names p objects) where
+module _ (names : Declarations) (p : Parts) (objects : List Typed) (agree : Declares names p objects) where
   pub type_known : (t : Name) → IsType p t → is_type names t ≡ true
   type_known = type_listed names p agree.types
 

@@ -14,7 +14,7 @@ use Rattle.up_tree.specs.declared.problem.Parts.{Parts}
 use Rattle.up_tree.specs.Nodes.{sum, difference, product, quotient, built}
 use Rattle.up_tree.specs.Objects.{function_named}
 use Rattle.up_tree.specs.WellFormed as tree
-use Rattle.up_tree.specs.WellFormed.{gives_object, GivesNumber, RowFits, TermsFit}
+use Rattle.up_tree.specs.WellFormed.{gives_object, GivesNumber, RowFits, TermsFit, IsExpr}
 use Rattle.pddl_lex.specs.Parses.{parsed, over}
 use Rattle.pddl_parse.specs.declared.raw.Ident.{Ident}
 use Rattle.pddl_parse.specs.declared.raw.Operator.{Operator}
@@ -32,9 +32,8 @@ use Rattle.up_phrase.specs.Terms.{term}
 use Rattle.up_phrase.proofs.ExprNodes.{expr-Number, expr-Call, expr-Arithmetic}
 use Rattle.up_phrase.proofs.FormulaNodes.{is_numeric-Name, is_numeric-Variable, is_numeric-Number, is_numeric-Call, is_numeric-Arithmetic}
 use Rattle.roundtrip_tokens.proofs.Named.{found_and}
-use Rattle.written_forms.specs.Raw.{at, a_variable, an_object, a_number, a_call, arithmetic as an_arithmetic, IsRawTerm, IsRawExpr}
-use Rattle.roundtrip_names.specs.Agree.{signature_of, Agree, SameScope}
-use Rattle.roundtrip_names.specs.Laws.{ExpressionsAreNamed}
+use Rattle.roundtrip_shapes.specs.Raw.{at, a_variable, an_object, a_number, a_call, arithmetic as an_arithmetic, IsRawTerm, IsRawExpr}
+use Rattle.roundtrip_names.specs.Declared.{signature_of, Declares, SameScope}
 use Rattle.roundtrip_names.proofs.Found.{function_found}
 use Rattle.roundtrip_names.proofs.Terms.{applied_read, terms_read}
 
@@ -72,7 +71,7 @@ object_gives : (g : Gives) → IsSome (gives_object g) → gives_number g ≡ fa
 object_gives gives.Number is = absurd (false≢true is)
 object_gives (gives.Object of) is = refl
 
-module _ (names : Declarations) (p : Parts) (objects : List Typed) (agree : Agree names p objects) where
+module _ (names : Declarations) (p : Parts) (objects : List Typed) (agree : Declares names p objects) where
   -- what is declared of a function of the problem
   pub signature_found : (f : Name) (d : Function) → function_named p f ≡ Some d → function_of names f ≡ Some (signature_of d)
   signature_found f d here = function_found names p objects agree f ∙ ap (option_map signature_of) here
@@ -126,5 +125,7 @@ module _ (names : Declarations) (p : Parts) (objects : List Typed) (agree : Agre
       expr_read (quotient a b) is _ (an_arithmetic place x y so_a so_b) =
           pair_read operator.Quotient place x y a b (expr_read a is.0 x so_a) (expr_read b is.1 y so_b) ∙ ap parsed (quotient_built a b)
 
-pub expressions_are_named : ExpressionsAreNamed
+pub expressions_are_named : (names : Declarations) (p : Parts) (objects : List Typed) → Declares names p objects
+    → (scope : List Typed) (vars : Variables) → SameScope scope vars
+    → (x : Expr) → IsExpr p objects scope x → (raw : RawTerm) → IsRawExpr x raw → expr names vars Plain raw ≡ parsed x
 expressions_are_named names p objects agree scope vars same x is raw so = expr_read names p objects agree scope vars same x is raw so

@@ -18,7 +18,7 @@ use Rattle.up_tree.specs.WellFormed.{IsBelow}
 use Rattle.up_phrase.specs.Declarations.{Declarations}
 use Rattle.up_phrase.specs.Named.{is_object}
 use Rattle.up_phrase.specs.Lookups.{parent_of, type_of, predicate_of, function_of, climbs, is_under}
-use Rattle.roundtrip_names.specs.Agree.{entry, signature_of, Agree}
+use Rattle.roundtrip_names.specs.Declared.{entry, signature_of, Declares}
 
 pub same_swap : (a b : Name) → same_name a b ≡ same_name b a
 same_swap a b = nat_list_eq_equiv.symm a b
@@ -53,7 +53,7 @@ found_first test (x ∷ xs) ys some = by (test x) (found_first test xs ys) some
     by true rest some = refl
     by false rest some = rest some
 
-module _ (names : Declarations) (p : Parts) (objects : List Typed) (agree : Agree names p objects) where
+module _ (names : Declarations) (p : Parts) (objects : List Typed) (agree : Declares names p objects) where
   pub parent_found : (t : Name) → parent_of names t ≡ type_in p.types t
   parent_found t = ap (lookup (same_name t)) agree.types ∙ entry_found p.types t
 

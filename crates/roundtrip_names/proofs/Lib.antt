@@ -1,4 +1,4 @@
-pub mod Agreeing
+pub mod Declaring
 pub mod Conditions
 pub mod Declared
 pub mod Effects

@@ -10,15 +10,14 @@ use Rattle.up_text.specs.Lists.{Every, Member, Differ}
 use Rattle.up_tree.specs.declared.term.Typed.{Typed}
 use Rattle.up_tree.specs.declared.problem.Parts.{Parts}
 use Rattle.up_tree.specs.Objects.{type_in, chain}
-use Rattle.up_tree.specs.WellFormed.{top_type, IsType, IsBelow}
+use Rattle.up_tree.specs.WellFormed.{top_type, IsType, IsBelow, IsWellFormed}
 use Rattle.pddl_lex.specs.Parses.{parsed}
 use Rattle.pddl_parse.specs.declared.raw.RawGroup.{RawGroup}
 use Rattle.pddl_parse.specs.Forms.{ident_at}
 use Rattle.up_phrase.specs.Named.{object, is_object}
 use Rattle.up_declare.specs.Types.{Types, parent_in, with_type, with_groups, with_parents, leaves, reaches, fault_at, type_faults, types}
-use Rattle.written_forms.specs.Raw.{at, AreRawGroups, no_groups, more_groups}
-use Rattle.roundtrip_names.specs.Agree.{entry}
-use Rattle.roundtrip_names.specs.Laws.{TypesAreNamed}
+use Rattle.roundtrip_shapes.specs.Raw.{at, AreRawGroups, no_groups, more_groups}
+use Rattle.roundtrip_names.specs.Declared.{entry}
 use Rattle.roundtrip_names.proofs.Found.{entry_found}
 use Rattle.roundtrip_names.proofs.Entered.{Free, still_free, none_typed, type_present}
 
@@ -105,7 +104,7 @@ all_free : (new : List Typed) → Free [] new
 all_free [] = tt
 all_free (v ∷ new) = (refl, all_free new)
 
-pub types_are_named : TypesAreNamed
+pub types_are_named : (p : Parts) → IsWellFormed p → (groups : List RawGroup) → AreRawGroups true p.types groups → types groups ≡ parsed (map entry p.types)
 types_are_named p well groups so =
     let tops : NoneTop p.types = none_top p.types well.top_free in
     let listed : with_groups groups [] ≡ map entry p.types = groups_listed p p.types groups [] so (all_free p.types) well.types.differ tops in

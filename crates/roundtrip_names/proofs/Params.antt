@@ -24,10 +24,9 @@ use Rattle.up_phrase.specs.Named.{object}
 use Rattle.up_phrase.specs.Walks.{after, in_turn}
 use Rattle.up_declare.specs.Declaring.{each_of, arg_types, with_predicates, given, gives_fault, with_function, with_function_group, with_functions}
 use Rattle.roundtrip_tokens.proofs.Named.{every-map}
-use Rattle.written_forms.specs.Raw.{at, empty, first, AreRawNames, no_names, more_names, AreRawGroups, no_groups, more_groups, one_group}
-use Rattle.roundtrip_names.specs.Agree.{entry, signature_of, TypesWritten, with_each}
+use Rattle.roundtrip_shapes.specs.Raw.{at, empty, first, AreRawNames, no_names, more_names, AreRawGroups, no_groups, more_groups, one_group}
+use Rattle.roundtrip_names.specs.Declared.{entry, signature_of, TypesWritten, with_each}
 use Rattle.roundtrip_names.specs.Symbols.{AreOwnGroups, own_group, IsSymbol, AreSymbols, IsNew, and_predicates, and_functions}
-use Rattle.roundtrip_names.specs.Laws.{PredicatesAreNamed, FunctionsAreNamed, EachFunctionIsNamed}
 use Rattle.roundtrip_names.proofs.Entered.{or_else, lookup-append, type_listed, only_top}
 use Rattle.roundtrip_names.proofs.Rows.{name_is}
 
@@ -110,10 +109,15 @@ gives_known : (names : Declarations) (p : Parts) → names.types ≡ map entry p
 gives_known names p listed stated.Number is = refl
 gives_known names p listed (stated.Object of) is = rw (type_listed names p listed of.name is) refl
 
-pub predicates_are_named : PredicatesAreNamed
+pub predicates_are_named : (p : Parts) (typed : Bool) → TypesWritten typed p → (entries : List (Name × List Name)) (symbols : List RawSymbol) (names : Declarations) → names.types ≡ map entry p.types
+    → AreSymbols typed entries symbols → Every (λ e. IsNew names e.0) entries → Differ (map (λ e. e.0) entries) → Every (λ e. Every (IsType p) e.1) entries
+    → with_predicates symbols names ≡ parsed (and_predicates names entries)
 predicates_are_named p typed all entries symbols names listed are new differ types = predicates_declared p typed all entries symbols names listed are new differ types
 
-pub functions_are_named : FunctionsAreNamed
+pub functions_are_named : (p : Parts) (typed : Bool) → TypesWritten typed p → (of : RawGives) (entries : List (Name × List Name)) (symbols : List RawSymbol) (names : Declarations)
+    → names.types ≡ map entry p.types → AreSymbols typed entries symbols → Every (λ e. IsNew names e.0) entries → Differ (map (λ e. e.0) entries)
+    → Every (λ e. Every (IsType p) e.1) entries → OfGives p (given of)
+    → with_function_group (record { functions = symbols; gives = of }) names ≡ parsed (and_functions names (given of) entries)
 functions_are_named p typed all of entries symbols names listed are new differ types known =
     rw (functions_declared p typed all of entries symbols names listed are new differ types, gives_known (and_functions names (given of) entries) p listed of known) refl
 
@@ -141,5 +145,7 @@ each_declared p typed all (d ∷ ds) _ names listed (first _ groups (own_group s
     ∙ ap (λ fs. parsed (with_signatures names fs)) (append_assoc names.functions (signed (given of) (d.name, d.args) ∷ []) (map declared_as ds))
     ∙ ap (λ (g : Gives). parsed (with_signatures names (names.functions ++ signed g (d.name, d.args) ∷ map declared_as ds))) (sym same)
 
-pub each_function_is_named : EachFunctionIsNamed
+pub each_function_is_named : (p : Parts) (typed : Bool) → TypesWritten typed p → (ds : List Function) (groups : List RawFunctions) (names : Declarations) → names.types ≡ map entry p.types
+    → AreOwnGroups typed ds groups → Every (λ d. IsNew names d.name) ds → Differ (map (λ d. d.name) ds) → Every (λ d. Every (IsType p) d.args) ds
+    → Every (λ d. OfGives p d.gives) ds → with_functions groups names ≡ parsed (with_each names ds)
 each_function_is_named p typed all ds groups names listed are new differ types known = each_declared p typed all ds groups names listed are new differ types known

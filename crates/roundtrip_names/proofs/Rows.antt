@@ -21,14 +21,16 @@ use Rattle.up_phrase.specs.Declarations.{Declarations}
 use Rattle.up_phrase.specs.Scopes.{Variables, typed}
 use Rattle.up_effect.specs.Effects.{Around, within, under, together, rows}
 use Rattle.up_effect.proofs.EffectNodes.{rows-And, rows-Forall, rows-When}
-use Rattle.written_forms.specs.Raw.{IsRawName, at, empty, first, IsRawFormula}
-use Rattle.written_forms.specs.RawEffects.{IsRawWhen, a_when, for_each, IsRawEffect, IsRawUnder, IsRawForEach, AreRawRows, IsRawAll, all_of}
-use Rattle.roundtrip_names.specs.Agree.{entry, Agree, SameScope, TypesWritten}
-use Rattle.roundtrip_names.specs.Laws.{EffectsAreNamed, ActionsAreNamed}
+use Rattle.roundtrip_shapes.specs.Raw.{IsRawName, at, empty, first, IsRawFormula}
+use Rattle.roundtrip_shapes.specs.RawEffects.{IsRawWhen, a_when, for_each, IsRawEffect, IsRawUnder, IsRawForEach, AreRawRows, IsRawAll, all_of, IsRawAction}
+use Rattle.roundtrip_names.specs.Declared.{entry, Declares, SameScope, TypesWritten}
 use Rattle.roundtrip_names.proofs.Found.{entry_found}
 use Rattle.roundtrip_names.proofs.Entered.{scope_grown, bound_new, map_back, variables_entered}
 use Rattle.roundtrip_names.proofs.Conditions.{and_rebuilt, formula_read}
 use Rattle.roundtrip_names.proofs.Effects.{effect_read}
+use Rattle.up_effect.specs.Actions.{action}
+use Rattle.pddl_parse.specs.declared.raw.RawAction.{RawAction}
+use Rattle.up_tree.specs.declared.action.Action.{Action}
 
 -- the condition `true` is the empty `and`
 always_is : (f : Formula) → is_true_formula f ≡ true → And [] ≡ f
@@ -59,7 +61,7 @@ among count vars = record { parameters = count; variables = vars; barred = []; w
 abbrev row_of : List Typed → Formula → Effect → Row
 row_of vars f e = record { vars = vars; when = f; effect = e }
 
-module _ (names : Declarations) (p : Parts) (objects : List Typed) (agree : Agree names p objects) (written : Bool) (all_written : TypesWritten written p) where
+module _ (names : Declarations) (p : Parts) (objects : List Typed) (agree : Declares names p objects) (written : Bool) (all_written : TypesWritten written p) where
   -- an effect under its condition
   under_read : (scope : List Typed) (count : ℕ) (vars : Variables) → SameScope scope vars → (f : Formula) → tree.IsFormula p objects scope f → (e : Effect) → IsEffect p objects scope e
       → (raw : RawEffect) → IsRawUnder written f (IsRawEffect e) raw → rows names (among count vars) raw ≡ parsed (row_of (map typed (drop count vars)) f e ∷ [])
@@ -107,11 +109,14 @@ module _ (names : Declarations) (p : Parts) (objects : List Typed) (agree : Agre
 pub name_is : (name : Name) (ident : Ident) → IsRawName name ident → ident.name ≡ name
 name_is name _ (at place) = refl
 
-pub effects_are_named : EffectsAreNamed
+pub effects_are_named : (names : Declarations) (p : Parts) (objects : List Typed) → Declares names p objects → (typed : Bool) → TypesWritten typed p
+    → (params : List Typed) (vars : Variables) → SameScope params vars
+    → (rs : List Row) → Every (IsRow p objects params) rs → (raw : RawEffect) → IsRawAll (AreRawRows typed rs) raw → rows names (within vars []) raw ≡ parsed rs
 effects_are_named names p objects agree written all_written scope vars same rs are raw so =
     rows_read names p objects agree written all_written scope vars same rs are raw so
 
-pub actions_are_named : ActionsAreNamed
+pub actions_are_named : (names : Declarations) (p : Parts) → Declares names p (take p.constants p.objects) → (typed : Bool) → TypesWritten typed p
+    → (a : Action) → IsAction p a → (raw : RawAction) → IsRawAction typed a raw → action names raw ≡ parsed a
 actions_are_named names p agree written all_written a is raw so =
     let vars : Variables = map entry a.params in
     let same : SameScope a.params vars = λ v. entry_found a.params v in

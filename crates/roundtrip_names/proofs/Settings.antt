@@ -12,7 +12,7 @@ use Rattle.up_tree.specs.declared.problem.Parts.{Parts}
 use Rattle.up_tree.specs.Nodes.{sum, difference, product, quotient, not, imply, exists, forall}
 use Rattle.up_tree.specs.Objects.{type_in, predicate_named, function_named}
 use Rattle.up_tree.specs.WellFormed as tree
-use Rattle.up_tree.specs.WellFormed.{GivesNumber, TermsFit, AreFormulas, term_type, HasNoFluent, IsPlainExpr, IsPlain, ArePlain}
+use Rattle.up_tree.specs.WellFormed.{GivesNumber, TermsFit, AreFormulas, term_type, HasNoFluent, IsPlainExpr, IsPlain, ArePlain, IsExpr, IsFormula}
 use Rattle.pddl_lex.specs.Parses.{parsed, over, all}
 use Rattle.pddl_parse.specs.declared.raw.Operator.{Operator}
 use Rattle.pddl_parse.specs.declared.raw.Operator.TheVariants as operator
@@ -32,9 +32,9 @@ use Rattle.up_phrase.proofs.TermNodes.{term-Name, term-Variable}
 use Rattle.up_phrase.proofs.ExprNodes.{expr-Number, expr-Call, expr-Arithmetic}
 use Rattle.up_phrase.proofs.FormulaNodes.{formula-And, formula-Or, formula-Not, formula-Imply, formula-Exists, formula-Forall, formula-Atom, formula-Compare}
 use Rattle.roundtrip_tokens.proofs.Named.{found_and}
-use Rattle.written_forms.specs.Raw.{at, empty, first, a_variable, an_object, a_number, a_call, arithmetic as an_arithmetic, an_and, an_or, a_not, an_imply, an_exists, a_forall, an_atom, a_compare, IsRawTerm, AreRawTerms, IsRawExpr, IsRawFormula, AreRawMembers}
-use Rattle.roundtrip_names.specs.Agree.{entry, Agree, SameScope, TypesWritten}
-use Rattle.roundtrip_names.specs.Laws.{IsDue, PlainExpressionsAreNamed, PlainConditionsAreNamed}
+use Rattle.roundtrip_shapes.specs.Raw.{at, empty, first, a_variable, an_object, a_number, a_call, arithmetic as an_arithmetic, an_and, an_or, a_not, an_imply, an_exists, a_forall, an_atom, a_compare, IsRawTerm, AreRawTerms, IsRawExpr, IsRawFormula, AreRawMembers}
+use Rattle.roundtrip_names.specs.Declared.{entry, Declares, SameScope, TypesWritten}
+use Rattle.roundtrip_names.specs.Due.{IsDue}
 use Rattle.roundtrip_names.proofs.Found.{object_found, object_typed}
 use Rattle.roundtrip_names.proofs.Terms.{ReadsAs, none_read, one_more_read, applied_read, typed_read, typed_some}
 use Rattle.roundtrip_names.proofs.Exprs.{sum_built, difference_built, product_built, quotient_built, two_operands, numeric_read, term_not_numeric}
@@ -46,7 +46,7 @@ first_plain (Var v) ts plain = (tt, plain)
 first_plain (Object o) ts plain = (tt, plain)
 first_plain (Fluent' f n us) ts plain = absurd plain
 
-module _ (names : Declarations) (p : Parts) (objects : List Typed) (agree : Agree names p objects) (s : Setting) where
+module _ (names : Declarations) (p : Parts) (objects : List Typed) (agree : Declares names p objects) (s : Setting) where
   module _ (scope : List Typed) (vars : Variables) (same : SameScope scope vars) where
     plain_term_read : (t : Term) → HasNoFluent (t ∷ []) → tree.IsTerm p objects scope t → (due : Option Name) → IsDue p (term_type p scope t) due
         → (raw : RawTerm) → IsRawTerm t raw → term names vars s raw due ≡ parsed t
@@ -142,9 +142,13 @@ module _ (names : Declarations) (p : Parts) (objects : List Typed) (agree : Agre
       plain_members_read (more_of-Formula f fs) scope vars same plain is _ (first x raws so are) =
           rw (plain_formula_read f scope vars same plain.0 is.0 x so, plain_members_read fs scope vars same plain.1 is.1 raws are) refl
 
-pub plain_expressions_are_named : PlainExpressionsAreNamed
+pub plain_expressions_are_named : (names : Declarations) (p : Parts) (objects : List Typed) → Declares names p objects → (s : Setting)
+    → (scope : List Typed) (vars : Variables) → SameScope scope vars
+    → (x : Expr) → IsExpr p objects scope x → IsPlainExpr x → (raw : RawTerm) → IsRawExpr x raw → expr names vars s raw ≡ parsed x
 plain_expressions_are_named names p objects agree s scope vars same x is plain raw so = plain_expr_read names p objects agree s scope vars same x plain is raw so
 
-pub plain_conditions_are_named : PlainConditionsAreNamed
+pub plain_conditions_are_named : (names : Declarations) (p : Parts) (objects : List Typed) → Declares names p objects → (s : Setting) (typed : Bool) → TypesWritten typed p
+    → (scope : List Typed) (vars : Variables) → SameScope scope vars
+    → (f : Formula) → IsFormula p objects scope f → IsPlain f → (raw : RawFormula) → IsRawFormula typed f raw → formula names vars s raw ≡ parsed f
 plain_conditions_are_named names p objects agree s written all_written scope vars same f is plain raw so =
     plain_formula_read names p objects agree s written all_written f scope vars same plain is raw so

@@ -16,7 +16,7 @@ use Rattle.up_tree.specs.declared.problem.Gives.TheVariants as gives
 use Rattle.up_tree.specs.declared.problem.Parts.{Parts}
 use Rattle.up_tree.specs.Objects.{named, type_in, function_named}
 use Rattle.up_tree.specs.WellFormed as tree
-use Rattle.up_tree.specs.WellFormed.{IsBelow, term_type, gives_object, RowFits, TermsFit}
+use Rattle.up_tree.specs.WellFormed.{IsBelow, term_type, gives_object, RowFits, TermsFit, IsTerm}
 use Rattle.pddl_lex.specs.Parses.{parsed, over, all}
 use Rattle.pddl_parse.specs.declared.raw.Ident.{Ident}
 use Rattle.pddl_parse.specs.declared.raw.RawTerm.{RawTerm}
@@ -32,9 +32,9 @@ use Rattle.up_phrase.specs.Walks.{Checked, unless}
 use Rattle.up_phrase.proofs.Steps.{applied_parsed}
 use Rattle.up_phrase.proofs.TermNodes.{term-Name, term-Variable, term-Call}
 use Rattle.roundtrip_tokens.proofs.Named.{found_and}
-use Rattle.written_forms.specs.Raw.{at, empty, first, a_variable, an_object, a_call, IsRawTerm, AreRawArguments, AreRawTerms}
-use Rattle.roundtrip_names.specs.Agree.{signature_of, Agree, SameScope}
-use Rattle.roundtrip_names.specs.Laws.{IsDue, TermsAreNamed}
+use Rattle.roundtrip_shapes.specs.Raw.{at, empty, first, a_variable, an_object, a_call, IsRawTerm, AreRawArguments, AreRawTerms}
+use Rattle.roundtrip_names.specs.Declared.{signature_of, Declares, SameScope}
+use Rattle.roundtrip_names.specs.Due.{IsDue}
 use Rattle.roundtrip_names.proofs.Found.{object_found, object_typed, function_found, under_is}
 
 -- an object function's value is that of a list of terms
@@ -59,7 +59,7 @@ pub applied_read : (one : RawTerm → Option Name → Checked Term) (place : Pla
 applied_read one place name declared types args ts is (reads_as count are) =
     applied_parsed place name one declared types args ts is (ap (λ b. unless b (fault_at place Arity name)) ((unsigned_Decides (length args) (length types)).1 count)) are
 
-module _ (names : Declarations) (p : Parts) (objects : List Typed) (agree : Agree names p objects) (scope : List Typed) (vars : Variables) (same : SameScope scope vars) where
+module _ (names : Declarations) (p : Parts) (objects : List Typed) (agree : Declares names p objects) (scope : List Typed) (vars : Variables) (same : SameScope scope vars) where
   -- a name of this type where one below another is due
   pub typed_read : (it : Ident) (t : Term) (due of : Option Name) → IsSome of → IsDue p of due → of_type names it t due of ≡ parsed t
   typed_read it t due None some fits = absurd (false≢true some)
@@ -125,5 +125,8 @@ module _ (names : Declarations) (p : Parts) (objects : List Typed) (agree : Agre
   terms_read (t ∷ ts) (of ∷ types) fits _ (first arg args is are) =
       one_more_read (term names vars Plain) of types arg args t ts (term_read t fits.0.0 (Some of) fits.0.1 arg is) (terms_read ts types fits.1 args are)
 
-pub terms_are_named : TermsAreNamed
+pub terms_are_named : (names : Declarations) (p : Parts) (objects : List Typed) → Declares names p objects
+    → (scope : List Typed) (vars : Variables) → SameScope scope vars
+    → (t : Term) → IsTerm p objects scope t → (due : Option Name) → IsDue p (term_type p scope t) due
+    → (raw : RawTerm) → IsRawTerm t raw → term names vars Plain raw due ≡ parsed t
 terms_are_named names p objects agree scope vars same t is due fits raw so = term_read names p objects agree scope vars same t is due fits raw so

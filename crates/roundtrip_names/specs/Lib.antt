@@ -1,3 +1,4 @@
-pub mod Agree
-pub mod Laws
+pub mod Declared
+pub mod Due
+pub mod New
 pub mod Symbols

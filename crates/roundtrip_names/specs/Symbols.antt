@@ -10,7 +10,7 @@ use Rattle.pddl_parse.specs.declared.raw.RawGives.{RawGives}
 use Rattle.up_declare.specs.Declaring.{given}
 use Rattle.up_phrase.specs.Declarations.{Declarations}
 use Rattle.up_phrase.specs.Lookups.{predicate_of, function_of}
-use Rattle.written_forms.specs.Raw.{IsEmpty, IsFirst, IsRawName, AreRawGroups}
+use Rattle.roundtrip_shapes.specs.Raw.{IsEmpty, IsFirst, IsRawName, AreRawGroups}
 
 -- a name with parameters of these types
 pub record IsSymbol (typed : Bool) (word : Name) (args : List Name) (symbol : RawSymbol) : Type 0 where
@@ -28,7 +28,7 @@ AreSymbols typed (e ∷ entries) symbols = IsFirst (IsSymbol typed e.0 e.1) (Are
 abbrev pub IsNew : Declarations → Name → Type 0
 IsNew names name = (predicate_of names name ≡ None) × (function_of names name ≡ None)
 
--- what was declared, and behind it these predicates, or these functions that give the same
+-- what was declared, and after it these predicates, or these functions that give the same
 abbrev pub and_predicates : Declarations → List (Name × List Name) → Declarations
 and_predicates names entries =
     record { types = names.types; objects = names.objects; predicates = names.predicates ++ entries; functions = names.functions }
@@ -36,6 +36,10 @@ and_predicates names entries =
 abbrev pub and_functions : Declarations → Gives → List (Name × List Name) → Declarations
 and_functions names g entries =
     record { types = names.types; objects = names.objects; predicates = names.predicates; functions = names.functions ++ map (λ e. (e.0, record { args = e.1; gives = g })) entries }
+
+-- these functions, which give the same
+abbrev pub group_of : List RawSymbol → RawGives → RawFunctions
+group_of symbols of = record { functions = symbols; gives = of }
 
 -- a group of a function alone
 pub data IsOwnGroup (typed : Bool) (d : Function) : RawFunctions → Type 0 where

@@ -20,7 +20,7 @@ both_true p q = rw (p, q) refl
 
 -- ---- long division
 
--- the digits, at most so many, of r over d behind those of m
+-- the digits, at most so many, of r over d after those of m
 pub record IsLong (m d r most : ℕ) (ds : List ℕ) : Type 0 where
   pub all : list_all is_digit ds ≡ true
   pub few : length ds ≤ most

@@ -1,4 +1,4 @@
--- Texts of tokens of these kinds, whatever stands behind them.
+-- Texts of tokens of these kinds, whatever stands after them.
 use Rattle.std.proofs.Common.{◌≡◌, ℕ, Bool, true, false, not, List, [], ◌∷◌, ◌++◌, map, refl, ap, sym, ◌∙◌, subst, append_assoc, append-nil, arith}
 use Rattle.std.specs.Prelude.{Option, Some, codes, ◌||◌, ◌==◌, IsTrue}
 use Rattle.std.specs.List.{list_all}
@@ -19,7 +19,7 @@ use Rattle.roundtrip_tokens.proofs.Placeless.{kinds, token_first}
 abbrev pub is_apart : List ℕ → Bool
 is_apart text = stops (λ byte. is_name_byte byte || byte == 46) text
 
--- the text is of these kinds, whatever stands behind it
+-- the text is of these kinds, whatever stands after it
 pub record Shut (text : List ℕ) (ks : List TokenKind) : Type 0 where
   pub before : (rest : List ℕ) → kinds (text ++ rest) ≡ map Some ks ++ kinds rest
 
@@ -27,7 +27,7 @@ pub record Shut (text : List ℕ) (ks : List TokenKind) : Type 0 where
 pub record Lexes (text : List ℕ) (ks : List TokenKind) : Type 0 where
   pub before : (rest : List ℕ) → is_apart rest ≡ true → kinds (text ++ rest) ≡ map Some ks ++ kinds rest
 
--- ---- one text behind another
+-- ---- one text after another
 
 both : (a b rest : List ℕ) (ks ls : List TokenKind) → kinds (a ++ (b ++ rest)) ≡ map Some ks ++ kinds (b ++ rest) → kinds (b ++ rest) ≡ map Some ls ++ kinds rest
     → kinds ((a ++ b) ++ rest) ≡ map Some (ks ++ ls) ++ kinds rest
@@ -156,7 +156,7 @@ spaced_off {a} {ks} one = subst (Shut (a ++ codes " ")) (append-nil ks) (cut_by 
 pub closed : {a : List ℕ} {ks : List TokenKind} → Lexes a ks → Lexes (a ++ codes ")") (ks ++ Close ∷ [])
 closed one = follows one refl close_bracket
 
--- a name behind a bracket
+-- a name after a bracket
 pub opened : (name : List ℕ) → IsTrue (is_spelled name) → Lexes (codes "(" ++ name) (Open ∷ Word name ∷ [])
 opened name is = behind open_bracket (word name is)
 

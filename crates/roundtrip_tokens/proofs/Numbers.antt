@@ -23,7 +23,7 @@ use Rattle.roundtrip_tokens.proofs.Placeless.{kinds, token_first}
 use Rattle.roundtrip_tokens.proofs.Lexes.{Lexes}
 use Rattle.roundtrip_tokens.proofs.Division.{IsLong, long, no_digits, some_digits, IsDecimal, decimal_is}
 
--- ---- what stands behind the whole number
+-- ---- what stands after the whole number
 
 -- nothing, or a point and these digits
 record IsPoint (point ds : List ℕ) : Type 0 where

@@ -12,7 +12,7 @@ use Rattle.pddl_lex.specs.Items.{Item, items, items_from, items_at, kind_of}
 use Rattle.pddl_lex.specs.Next.{next, more_of}
 use Rattle.pddl_lex.specs.Places.{start, after_byte, place_behind}
 use Rattle.pddl_lex.specs.Spells.{token as a_token, HasShape, Ends}
-use Rattle.roundtrip_tokens.specs.Laws.{SpelledByKinds}
+use Rattle.roundtrip_tokens.specs.Spelled.{SpelledByKinds}
 use Rattle.pddl_lex.proofs.Reading.{read_stands, read_whole}
 use Rattle.pddl_lex.proofs.Spelling.{stands_read}
 

@@ -1,4 +1,4 @@
--- Signs behind brackets and between names.
+-- Signs after brackets and between names.
 use Rattle.std.proofs.Common.{◌≡◌, ℕ, List, [], ◌∷◌, ◌++◌, Bool, true, false, refl}
 use Rattle.std.specs.Prelude.{codes}
 use Rattle.up_tree.specs.declared.formula.Relation.{Relation}

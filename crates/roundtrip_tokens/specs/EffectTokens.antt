@@ -34,12 +34,16 @@ under_tokens typed f tokens = if is_true_formula f then tokens else group (Word 
 abbrev pub effect_row_tokens : Bool → Row → List TokenKind
 effect_row_tokens typed r = for_each_tokens typed r.vars (under_tokens typed r.when (effect_tokens r.effect))
 
+-- the effect of an action with these rows
+abbrev pub whole_effect_tokens : Bool → List Row → List TokenKind
+whole_effect_tokens typed rows = group (Word (codes "and") ∷ flat_map (effect_row_tokens typed) rows)
+
 abbrev pub action_tokens : Bool → Action → List TokenKind
 action_tokens typed a =
     group (
     Keyword (codes "action") ∷ Word a.name ∷ Keyword (codes "parameters") ∷ group (variables_tokens typed a.params)
     ++ Keyword (codes "precondition") ∷ formula_tokens typed a.pre
-    ++ Keyword (codes "effect") ∷ group (Word (codes "and") ∷ flat_map (effect_row_tokens typed) a.rows)
+    ++ Keyword (codes "effect") ∷ whole_effect_tokens typed a.rows
     )
 
 abbrev pub rule_tokens : Bool → Rule → List TokenKind

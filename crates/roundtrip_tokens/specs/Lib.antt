@@ -1,4 +1,4 @@
 pub mod EffectTokens
 pub mod FileTokens
-pub mod Laws
+pub mod Spelled
 pub mod Tokens

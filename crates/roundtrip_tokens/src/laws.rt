@@ -1,12 +1,17 @@
 //! Laws of the definitions, each the contract of a function that does nothing.
-ghost use Rattle.roundtrip_tokens.specs.Laws.{DomainsAreSpelled, ProblemsAreSpelled};
+ghost use Rattle.up_tree.specs.WellFormed.{IsWellFormed};
+ghost use Rattle.pddl_write.specs.Files.{domain_text, problem_text};
+ghost use Rattle.roundtrip_tokens.specs.FileTokens.{domain_tokens, problem_tokens};
+ghost use Rattle.roundtrip_tokens.specs.Spelled.{SpelledByKinds};
 
-/// A law: the domain text of a well formed problem is spelled by tokens of the kinds that stand for its parts, in order.
-pub fn domain_is_spelled()
-    ensures { DomainsAreSpelled }
+use up_tree::Problem;
+
+/// Tokens of the kinds that stand for the parts of a well-formed problem's domain, in order, spell the domain text.
+pub fn domain_is_spelled(_p: &Problem)
+    ensures { IsWellFormed _p.now → SpelledByKinds (domain_text _p.now) (domain_tokens _p.now) }
 {}
 
-/// A law: the same of the problem text.
-pub fn problem_is_spelled()
-    ensures { ProblemsAreSpelled }
+/// Tokens of the kinds that stand for the parts of a well-formed problem, in order, spell the problem text.
+pub fn problem_is_spelled(_p: &Problem)
+    ensures { IsWellFormed _p.now → SpelledByKinds (problem_text _p.now) (problem_tokens _p.now) }
 {}

@@ -1,4 +1,4 @@
-//! Laws of the tokens of written texts.
+//! Laws of the tokens of written texts: they are those that stand for the problem's parts.
 #![tactic(auto)]
 
 mod laws;

@@ -1,6 +1,6 @@
 -- The two laws of reading on which the headline stands.
-use Rattle.text_laws.proofs.Texts.{texts_are_well_formed}
-use Rattle.written_problems.proofs.Reading.{written_problems_read_back}
+use Rattle.wellformed_texts.proofs.Texts.{texts_are_well_formed}
+use Rattle.roundtrip_texts.proofs.Reading.{written_problems_read_back}
 use Rattle.up_run.proofs.Headline.{ReadIsWellFormed, WrittenIsRead}
 
 pub read_well : ReadIsWellFormed

@@ -19,8 +19,8 @@ use Rattle.up_phrase.specs.Scopes.{entered_groups, typed}
 use Rattle.up_effect.specs.Actions.{action_of, with_parameters, action}
 use Rattle.up_effect.specs.Effects.{within, rows}
 use Rattle.up_check.specs.Domains.{actions, second}
-use Rattle.wellformed_phrases.specs.Agreement.{IfFine, Agree}
-use Rattle.wellformed_phrases.specs.Literal.{IsWrittenAction}
+use Rattle.wellformed_phrases.specs.Agreement.{IfParsed, Agree}
+use Rattle.wellformed_phrases.specs.LawfulPhrases.{IsLawfulAction}
 use Rattle.wellformed_phrases.proofs.Parses.{parsed_two, parsed_after, parsed_behind, parsed_any, holds}
 use Rattle.wellformed_phrases.proofs.Members.{member_front, member_back, every_as, listed}
 use Rattle.wellformed_phrases.proofs.Actions.{action_is}
@@ -65,14 +65,14 @@ one_apart declared name named free a acts is apart = record {
 }
 
 module _ (names : Declarations) where
-  action_named : (raw : RawAction) → IfFine (action names raw) (λ a. a.name ≡ raw.name.name)
+  action_named : (raw : RawAction) → IfParsed (action names raw) (λ a. a.name ≡ raw.name.name)
   action_named raw =
       parsed_after (λ vars. ⊤) (λ (a : Action). a.name ≡ raw.name.name) (entered_groups names [] raw.params []) (with_parameters names raw []) (parsed_any (entered_groups names [] raw.params []))
       (λ vars any. parsed_two (λ f. ⊤) (λ rs. ⊤) (λ (a : Action). a.name ≡ raw.name.name) (action_of raw.name.name (map typed vars)) (formula names vars Plain raw.pre)
       (rows names (within vars []) raw.effect) (λ f rs one other. refl) (parsed_any (formula names vars Plain raw.pre)) (parsed_any (rows names (within vars []) raw.effect)))
 
   pub actions_apart : (raws : List RawAction) (declared : List Name) → Every (λ (raw : RawAction). IsName raw.name.name) raws
-      → IfFine (actions names declared raws) (AreApart declared)
+      → IfParsed (actions names declared raws) (AreApart declared)
   actions_apart [] declared named = record { names_all = tt; differ = tt; new = tt }
   actions_apart (raw ∷ raws) declared named =
       parsed_behind (AreApart declared) (second declared raw.name)
@@ -84,10 +84,10 @@ module _ (names : Declarations) where
       (action_named raw) (actions_apart raws (with_name declared raw.name.name) named.1))
 
   module _ (p : Parts) (agree : Agree names p (take p.constants p.objects)) where
-    pub actions_are : (raws : List RawAction) (declared : List Name) → Every IsWrittenAction raws → IfFine (actions names declared raws) (Every (IsAction p))
-    actions_are [] declared written = tt
-    actions_are (raw ∷ raws) declared written =
+    pub actions_are : (raws : List RawAction) (declared : List Name) → Every IsLawfulAction raws → IfParsed (actions names declared raws) (Every (IsAction p))
+    actions_are [] declared lawful = tt
+    actions_are (raw ∷ raws) declared lawful =
         parsed_behind (Every (IsAction p)) (second declared raw.name)
         (over_two (λ a more. a ∷ more) (action names raw) (actions names (with_name declared raw.name.name) raws)) (λ none.
         parsed_two (IsAction p) (Every (IsAction p)) (Every (IsAction p)) (λ a more. a ∷ more) (action names raw) (actions names (with_name declared raw.name.name) raws)
-        (λ a acts is are. (is, are)) (action_is names p agree raw written.0) (actions_are raws (with_name declared raw.name.name) written.1))
+        (λ a acts is are. (is, are)) (action_is names p agree raw lawful.0) (actions_are raws (with_name declared raw.name.name) lawful.1))

@@ -12,9 +12,8 @@ use Rattle.up_phrase.specs.Declarations.{Declarations}
 use Rattle.up_phrase.specs.Scopes.{Variables, entered_groups, typed}
 use Rattle.up_effect.specs.Actions.{action_of, with_parameters, action}
 use Rattle.up_effect.specs.Effects.{within, rows}
-use Rattle.wellformed_phrases.specs.Agreement.{IfFine, Agree, AgreeInScope}
-use Rattle.wellformed_phrases.specs.Literal.{IsWrittenAction}
-use Rattle.wellformed_phrases.specs.Laws.{ActionsAreWellFormed}
+use Rattle.wellformed_phrases.specs.Agreement.{IfParsed, Agree, AgreeInScope}
+use Rattle.wellformed_phrases.specs.LawfulPhrases.{IsLawfulAction}
 use Rattle.wellformed_phrases.proofs.Parses.{parsed_two, parsed_after}
 use Rattle.wellformed_phrases.proofs.Tables.{type_found}
 use Rattle.wellformed_phrases.proofs.Members.{found_is}
@@ -31,9 +30,9 @@ pub agree_alone : (p : Parts) (vars : Variables) → Every (λ e. IsType p e.1) 
 agree_alone p vars known = record { same = λ v. type_found vars v; known_types = λ v of is. found_is v (IsType p) vars of known is }
 
 module _ (names : Declarations) (p : Parts) (agree : Agree names p (take p.constants p.objects)) where
-  with_parameters_is : (raw : RawAction) → IsWrittenAction raw → (vars : Variables) → OfMany [] names p (take p.constants p.objects) agree [] vars
-      → IfFine (with_parameters names raw [] vars) (IsAction p)
-  with_parameters_is raw written vars (added, is, are, known) =
+  with_parameters_is : (raw : RawAction) → IsLawfulAction raw → (vars : Variables) → OfMany [] names p (take p.constants p.objects) agree [] vars
+      → IfParsed (with_parameters names raw [] vars) (IsAction p)
+  with_parameters_is raw lawful vars (added, is, are, known) =
       let known_here : Every (λ e. IsType p e.1) vars = subst (Every (λ e. IsType p e.1)) (sym is) known in
       let in_scope = agree_alone p vars known_here in
       let params : AreVariables p [] (map typed vars) =
@@ -41,14 +40,15 @@ module _ (names : Declarations) (p : Parts) (agree : Agree names p (take p.const
       parsed_two (IsFormula p (take p.constants p.objects) (map typed vars)) (Every (IsRow p (take p.constants p.objects) (map typed vars))) (IsAction p)
       (action_of raw.name.name (map typed vars)) (formula names vars Plain raw.pre) (rows names (within vars []) raw.effect)
       (λ f rs pre each. record { params = params; pre = pre; rows = each })
-      (formula_is names p (take p.constants p.objects) agree Plain raw.pre written.pre vars (map typed vars) in_scope)
-      (rows_are names p (take p.constants p.objects) agree vars in_scope raw.effect written.effect (within vars [])
+      (formula_is names p (take p.constants p.objects) agree Plain raw.pre lawful.pre vars (map typed vars) in_scope)
+      (rows_are names p (take p.constants p.objects) agree vars in_scope raw.effect lawful.effect (within vars [])
       (record { added = []; is = sym (append-nil vars); count = refl; are = tt; known = tt; whens = tt; bars = tt }))
 
-  pub action_is : (raw : RawAction) → IsWrittenAction raw → IfFine (action names raw) (IsAction p)
-  action_is raw written =
+  pub action_is : (raw : RawAction) → IsLawfulAction raw → IfParsed (action names raw) (IsAction p)
+  action_is raw lawful =
       parsed_after (OfMany [] names p (take p.constants p.objects) agree []) (IsAction p) (entered_groups names [] raw.params []) (with_parameters names raw [])
-      (groups_are [] names p (take p.constants p.objects) agree raw.params [] written.params) (with_parameters_is raw written)
+      (groups_are [] names p (take p.constants p.objects) agree raw.params [] lawful.params) (with_parameters_is raw lawful)
 
-pub actions_are_well_formed : ActionsAreWellFormed
-actions_are_well_formed names p agree raw written = action_is names p agree raw written
+pub actions_are_well_formed : (names : Declarations) (p : Parts) → Agree names p (take p.constants p.objects)
+    → (raw : RawAction) → IsLawfulAction raw → IfParsed (action names raw) (IsAction p)
+actions_are_well_formed names p agree raw lawful = action_is names p agree raw lawful

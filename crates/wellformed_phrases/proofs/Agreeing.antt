@@ -22,7 +22,6 @@ use Rattle.up_phrase.specs.Scopes.{typed}
 use Rattle.wellformed_phrases.specs.Agreement.{Agree}
 use Rattle.wellformed_phrases.specs.Sound.{AreSound, GivesType, HasDeclared}
 use Rattle.wellformed_phrases.specs.SoundTypes.{AreSoundTypes}
-use Rattle.wellformed_phrases.specs.Laws.{SoundAgree}
 use Rattle.wellformed_phrases.proofs.Tables.{type_found, is_there}
 use Rattle.wellformed_phrases.proofs.Members.{found_is, found_named, lookup_append, names_in}
 
@@ -81,7 +80,8 @@ module _ (names : Declarations) (types_sound : AreSoundTypes names.types) (sound
     given_types = λ f function is. gives_is function.gives (found_is f (λ (s : Signature). GivesType names s.gives) names.functions function sound.value_types is);
   }
 
-pub sound_agree : SoundAgree
+pub sound_agree : (names : Declarations) → AreSoundTypes names.types → AreSound names
+    → (p : Parts) (more : List (Name × Name)) → HasDeclared p names more → Agree names p (map typed names.objects)
 sound_agree names types_sound sound p more has = agree names types_sound sound p more has
 
 -- what agrees where some objects may be named agrees where all may

@@ -1,9 +1,9 @@
--- The problem that written forms are read as is well formed.
+-- The problem that lawful forms are read as is well-formed.
 use Rattle.std.proofs.Common.{◌≡◌, ◌≤◌, true, List, [], ◌∷◌, ◌++◌, map, length, take, refl, ap, sym, ◌∙◌, subst, Option, arith}
 use Rattle.std.proofs.lemmas.List.{append-nil, length-append, length-map}
 use Rattle.up_text.specs.declared.name.Name.{Name}
 use Rattle.up_text.specs.Lists.{Every, Member}
-use Rattle.pddl_lex.specs.Parses.{before, over}
+use Rattle.pddl_lex.specs.Parses.{before, over, parsed}
 use Rattle.pddl_parse.specs.declared.raw.ProblemForm.{ProblemForm}
 use Rattle.up_tree.specs.declared.formula.Formula.{Formula}
 use Rattle.up_tree.specs.declared.problem.Constraint.{Constraint}
@@ -25,12 +25,11 @@ use Rattle.up_check.specs.Initial.{initial}
 use Rattle.up_check.specs.Lists.{predicate, function}
 use Rattle.up_check.specs.Metrics.{metric_of}
 use Rattle.up_check.specs.Problems.{wrong_domain, rules_and_metric, goal_on, stated, parts, in_names, objects_on, problem_names}
-use Rattle.wellformed_phrases.specs.Agreement.{IfFine, Agree}
+use Rattle.wellformed_phrases.specs.Agreement.{IfParsed, Agree}
 use Rattle.wellformed_phrases.specs.Initial.{IsInitial}
 use Rattle.wellformed_phrases.specs.Sound.{HasDeclared, GivesType}
 use Rattle.wellformed_phrases.specs.SoundTypes.{AreSoundTypes}
-use Rattle.wellformed_phrases.specs.Written.{IsWrittenProblem}
-use Rattle.wellformed_phrases.specs.Laws.{FormsAreWellFormed}
+use Rattle.wellformed_phrases.specs.LawfulForms.{IsLawfulProblem, IsLawfulDomain}
 use Rattle.wellformed_phrases.proofs.Parses.{parsed_over, parsed_two, parsed_after, parsed_behind, parsed_and, parsed_each, parsed_is}
 use Rattle.wellformed_phrases.proofs.Members.{every_as, every_append, every_map, names_in}
 use Rattle.wellformed_phrases.proofs.Conditions.{formula_is}
@@ -41,6 +40,7 @@ use Rattle.wellformed_phrases.proofs.Agreeing.{type_is, gives_is, sound_agree, a
 use Rattle.wellformed_phrases.proofs.Declared.{SoundOver, objects_over}
 use Rattle.wellformed_phrases.proofs.Growing.{IsGrown, objects_grown}
 use Rattle.wellformed_phrases.proofs.KnownDomains.{IsSoundDomain, domain_is}
+use Rattle.pddl_parse.specs.declared.raw.DomainForm.{DomainForm}
 
 -- ---- lists
 
@@ -64,7 +64,7 @@ record IsStated (p : Parts) (it : Stated) : Type 0 where
   constraints : Every (IsConstraint p) it.constraints
   metric : OnMetric p it.metric
 
-module _ (names : Declarations) (p : Parts) (agree : Agree names p p.objects) (form : ProblemForm) (written : IsWrittenProblem form)
+module _ (names : Declarations) (p : Parts) (agree : Agree names p p.objects) (form : ProblemForm) (lawful : IsLawfulProblem form)
     (rules : List Constraint) (are : Every (IsConstraint p) rules) where
   abbrev AreRules : List Constraint → Type 0
   AreRules = Every (IsConstraint p)
@@ -72,27 +72,27 @@ module _ (names : Declarations) (p : Parts) (agree : Agree names p p.objects) (f
   abbrev IsLast : List Constraint × Option Metric → Type 0
   IsLast more = Every (IsConstraint p) more.0 × OnMetric p more.1
 
-  rules_are : IfFine (rules_and_metric names rules form) IsLast
+  rules_are : IfParsed (rules_and_metric names rules form) IsLast
   rules_are =
       parsed_two AreRules (OnMetric p) IsLast (λ all m. (all, m)) (before rules (constraints names [] form.constraints)) (metric_of names form.metric)
       (λ all m is so. (is, so))
       (parsed_over AreRules AreRules (λ more. rules ++ more) (constraints names [] form.constraints) (λ more is. every_append (IsConstraint p) rules more are is)
-      (all_are names p agree form.constraints written.constraints))
-      (metric_is names p agree form.metric written.metric)
+      (all_are names p agree form.constraints lawful.constraints))
+      (metric_is names p agree form.metric lawful.metric)
 
   abbrev IsAfterInit : Formula × List Constraint × Option Metric → Type 0
   IsAfterInit more = IsFormula p p.objects [] more.0 × Every (IsConstraint p) more.1 × OnMetric p more.2
 
-  goal_is : IfFine (goal_on names rules form) IsAfterInit
+  goal_is : IfParsed (goal_on names rules form) IsAfterInit
   goal_is =
       parsed_two (IsFormula p p.objects []) IsLast IsAfterInit (λ goal more. (goal, more.0, more.1)) (formula names [] setting.Plain form.goal) (rules_and_metric names rules form)
-      (λ goal more is so. (is, so.0, so.1)) (formula_is names p p.objects agree setting.Plain form.goal written.goal [] [] (agree_empty p)) rules_are
+      (λ goal more is so. (is, so.0, so.1)) (formula_is names p p.objects agree setting.Plain form.goal lawful.goal [] [] (agree_empty p)) rules_are
 
-  stated_is : IfFine (stated names rules form) (IsStated p)
+  stated_is : IfParsed (stated names rules form) (IsStated p)
   stated_is =
       parsed_two (IsInitial p) IsAfterInit (IsStated p) (λ init more. record { init = init; goal = more.0; constraints = more.1; metric = more.2 })
       (initial names form.init) (goal_on names rules form)
-      (λ init more is so. record { init = is; goal = so.0; constraints = so.1; metric = so.2 }) (initial_is names p agree form.init written.init) goal_is
+      (λ init more is so. record { init = is; goal = so.0; constraints = so.1; metric = so.2 }) (initial_is names p agree form.init lawful.init) goal_is
 
 -- ---- the problem of a form in a known domain
 
@@ -100,7 +100,7 @@ module _ (names : Declarations) (p : Parts) (agree : Agree names p p.objects) (f
 abbrev WithRules : Declarations → List Constraint → Type 0
 WithRules names rules = (p : Parts) × Agree names p p.objects × Every (IsConstraint p) rules
 
-module _ (domain : Known) (is : IsSoundDomain domain) (form : ProblemForm) (written : IsWrittenProblem form) where
+module _ (domain : Known) (is : IsSoundDomain domain) (form : ProblemForm) (lawful : IsLawfulProblem form) where
   module _ (names : Declarations) (over : SoundOver domain.declarations.types names) (grown : IsGrown domain.declarations names) (it : Stated) where
     abbrev made : Parts
     made = parts (length domain.declarations.objects) domain.actions form names it
@@ -153,8 +153,8 @@ module _ (domain : Known) (is : IsSoundDomain domain) (form : ProblemForm) (writ
 
     well_formed : IsStated made it → IsWellFormed made
     well_formed so = record {
-      domain = written.domain;
-      name = written.name;
+      domain = lawful.domain;
+      name = lawful.name;
       types = subst AreDeclared (sym (made_names typed (λ t. t.name) (λ e. refl) names.types)) types_sound.names;
       top_free = subst (λ ns. ¬ Member top_type ns) (sym (made_names typed (λ t. t.name) (λ e. refl) names.types)) types_sound.top_free;
       chains = chains_are;
@@ -185,23 +185,24 @@ module _ (domain : Known) (is : IsSoundDomain domain) (form : ProblemForm) (writ
     }
 
   in_names_is : (names : Declarations) → SoundOver domain.declarations.types names × IsGrown domain.declarations names
-      → IfFine (in_names (length domain.declarations.objects) domain.actions domain.constraints form names) IsWellFormed
+      → IfParsed (in_names (length domain.declarations.objects) domain.actions domain.constraints form names) IsWellFormed
   in_names_is names (over, grown) =
       parsed_over (λ it. (problem : WithRules names domain.constraints) → IsStated problem.0 it) IsWellFormed (parts (length domain.declarations.objects) domain.actions form names)
       (stated names domain.constraints form)
       (λ it each. well_formed names over grown it (each (made names over grown it, agree names over grown it, rules_hold names over grown it)))
       (parsed_each (λ (problem : WithRules names domain.constraints) it. IsStated problem.0 it) (stated names domain.constraints form)
-      (λ (p, agree, rules). stated_is names p agree form written domain.constraints rules))
+      (λ (p, agree, rules). stated_is names p agree form lawful domain.constraints rules))
 
-  pub problem_is : IfFine (problem_names domain form) IsWellFormed
+  pub problem_is : IfParsed (problem_names domain form) IsWellFormed
   problem_is =
       parsed_behind IsWellFormed (wrong_domain domain.name form.domain) (objects_on domain.declarations domain.actions domain.constraints form) (λ none.
       parsed_after (λ names. SoundOver domain.declarations.types names × IsGrown domain.declarations names) IsWellFormed (with_objects form.objects domain.declarations)
       (in_names (length domain.declarations.objects) domain.actions domain.constraints form)
       (parsed_and (SoundOver domain.declarations.types) (IsGrown domain.declarations) (with_objects form.objects domain.declarations)
-      (objects_over domain.declarations.types domain.declarations (refl, is.sound.1) form.objects written.objects) (objects_grown domain.declarations form.objects)) in_names_is)
+      (objects_over domain.declarations.types domain.declarations (refl, is.sound.1) form.objects lawful.objects) (objects_grown domain.declarations form.objects)) in_names_is)
 
-pub forms_are_well_formed : FormsAreWellFormed
-forms_are_well_formed domain written_domain problem written_problem known knows p reads =
+pub forms_are_well_formed : (domain : DomainForm) → IsLawfulDomain domain → (problem : ProblemForm) → IsLawfulProblem problem
+    → (known : Known) → domain_names domain ≡ parsed known → (parts : Parts) → problem_names known problem ≡ parsed parts → IsWellFormed parts
+forms_are_well_formed domain lawful_domain problem lawful_problem known knows p reads =
     parsed_is IsWellFormed (problem_names known problem) p reads
-    (problem_is known (parsed_is IsSoundDomain (domain_names domain) known knows (domain_is domain written_domain)) problem written_problem)
+    (problem_is known (parsed_is IsSoundDomain (domain_names domain) known knows (domain_is domain lawful_domain)) problem lawful_problem)

@@ -29,9 +29,8 @@ use Rattle.up_phrase.specs.Scopes.{Variables, entered_groups, typed}
 use Rattle.up_phrase.specs.Terms.{term}
 use Rattle.up_phrase.specs.Walks.{Checked}
 use Rattle.up_check.specs.Lists as lists
-use Rattle.wellformed_phrases.specs.Agreement.{IfFine, Agree, AgreeInScope}
-use Rattle.wellformed_phrases.specs.Literal.{HasLiterals, HaveNames, IsWritten, AreWritten}
-use Rattle.wellformed_phrases.specs.Laws.{ConditionsAreWellFormed}
+use Rattle.wellformed_phrases.specs.Agreement.{IfParsed, Agree, AgreeInScope}
+use Rattle.wellformed_phrases.specs.LawfulPhrases.{HasLiterals, HaveNames, IsLawful, AreLawful}
 use Rattle.wellformed_phrases.proofs.Parses.{parsed_as, parsed_over, parsed_two, parsed_after, parsed_all}
 use Rattle.wellformed_phrases.proofs.Tables.{predicate_is, at_some}
 use Rattle.wellformed_phrases.proofs.Terms.{Reads, applied_are, term_is}
@@ -46,11 +45,11 @@ module _ (names : Declarations) (p : Parts) (objects : List Typed) (agree : Agre
     each_reads [] = tt
     each_reads (arg ∷ args) = (term_is names p objects agree vars scope in_scope s arg, each_reads args)
 
-    predicate_read : (it : Ident) (found : Option (List Name)) → predicate_of names it.name ≡ found → IfFine (predicate it found) (λ types. predicate_of names it.name ≡ Some types)
+    predicate_read : (it : Ident) (found : Option (List Name)) → predicate_of names it.name ≡ found → IfParsed (predicate it found) (λ types. predicate_of names it.name ≡ Some types)
     predicate_read it None is = tt
     predicate_read it (Some args) is = is
 
-    pub atom_is : (place : Place) (it : Ident) (args : List RawTerm) → IfFine (atom_args names vars s place it args) (IsAtom p objects scope it.name)
+    pub atom_is : (place : Place) (it : Ident) (args : List RawTerm) → IfParsed (atom_args names vars s place it args) (IsAtom p objects scope it.name)
     atom_is place it args =
         parsed_as (λ ts. (types : List Name) × (predicate_of names it.name ≡ Some types) × TermsFit p objects scope ts types) (IsAtom p objects scope it.name)
         (atom_args names vars s place it args)
@@ -59,14 +58,14 @@ module _ (names : Declarations) (p : Parts) (objects : List Typed) (agree : Agre
         (applied_are names p objects agree vars scope in_scope s (λ types. predicate_of names it.name ≡ Some types) place it.name
         (predicate it (predicate_of names it.name)) (map (term names vars s) args) (predicate_read it (predicate_of names it.name) refl) (each_reads args))
 
-    equality_is : (left right : RawTerm) → IfFine (equality names vars s left right) (IsFormula p objects scope)
+    equality_is : (left right : RawTerm) → IfParsed (equality names vars s left right) (IsFormula p objects scope)
     unfolding IsFormula
     equality_is left right =
         parsed_two (IsTerm p objects scope) (IsTerm p objects scope) (IsFormula p objects scope) (λ t u. Equal t u) (term names vars s left None) (term names vars s right None)
         (λ t u is so. (is, so)) (term_is names p objects agree vars scope in_scope s left None) (term_is names p objects agree vars scope in_scope s right None)
 
     comparison_is : (at_setting : Setting) (r : raw_relation.Relation) (left right : RawTerm) → HasLiterals left → HasLiterals right
-        → IfFine (comparison names vars at_setting r left right) (IsFormula p objects scope)
+        → IfParsed (comparison names vars at_setting r left right) (IsFormula p objects scope)
     unfolding IsFormula
     comparison_is at_setting r left right has also =
         parsed_two (IsExpr p objects scope) (IsExpr p objects scope) (IsFormula p objects scope) (λ a b. Compare (relation_of r) a b)
@@ -74,16 +73,16 @@ module _ (names : Declarations) (p : Parts) (objects : List Typed) (agree : Agre
         (expr_is names p objects agree vars scope in_scope at_setting left has) (expr_is names p objects agree vars scope in_scope at_setting right also)
 
     compared_is : (at_setting : Setting) (place : Place) (r : raw_relation.Relation) (left right : RawTerm) → HasLiterals left → HasLiterals right
-        → IfFine (compared names vars at_setting place r left right) (IsFormula p objects scope)
+        → IfParsed (compared names vars at_setting place r left right) (IsFormula p objects scope)
     compared_is setting.Plain place r left right has also = comparison_is setting.Plain r left right has also
     compared_is setting.Constraint place r left right has also = tt
     compared_is setting.Metric place r left right has also = comparison_is setting.Metric r left right has also
 
     related_is : (place : Place) (r : raw_relation.Relation) (left right : RawTerm) → HasLiterals left → HasLiterals right
-        → IfFine (related names vars s place r left right) (IsFormula p objects scope)
+        → IfParsed (related names vars s place r left right) (IsFormula p objects scope)
     related_is place r left right has also = by (is_equality names r left)
       where
-        by : (b : Bool) → IfFine (if b then equality names vars s left right else compared names vars s place r left right) (IsFormula p objects scope)
+        by : (b : Bool) → IfParsed (if b then equality names vars s left right else compared names vars s place r left right) (IsFormula p objects scope)
         by true = equality_is left right
         by false = compared_is s place r left right has also
 
@@ -93,8 +92,8 @@ module _ (names : Declarations) (p : Parts) (objects : List Typed) (agree : Agre
     IsQuantified q = AreVariables p scope q.0 × IsFormula p objects (q.0 ++ scope) q.1
 
     inside_is : (body : Variables → Checked Formula)
-        → ((inner : Variables) (inner_scope : List Typed) → AgreeInScope p inner inner_scope → IfFine (body inner) (IsFormula p objects inner_scope))
-        → (inner : Variables) → OfMany [] names p objects agree vars inner → IfFine (over (λ (f : Formula). (bound vars inner, f)) (body inner)) IsQuantified
+        → ((inner : Variables) (inner_scope : List Typed) → AgreeInScope p inner inner_scope → IfParsed (body inner) (IsFormula p objects inner_scope))
+        → (inner : Variables) → OfMany [] names p objects agree vars inner → IfParsed (over (λ (f : Formula). (bound vars inner, f)) (body inner)) IsQuantified
     inside_is body each inner (added, is, are, known) =
         let are_there = are_variables p vars scope in_scope [] added are known in
         let within : AgreeInScope p inner (map typed added ++ scope) =
@@ -105,8 +104,8 @@ module _ (names : Declarations) (p : Parts) (objects : List Typed) (agree : Agre
         (each inner (map typed added ++ scope) within)
 
     quantified_is : (groups : List RawGroup) (body : Variables → Checked Formula) → HaveNames groups
-        → ((inner : Variables) (inner_scope : List Typed) → AgreeInScope p inner inner_scope → IfFine (body inner) (IsFormula p objects inner_scope))
-        → IfFine (quantified names vars groups body) IsQuantified
+        → ((inner : Variables) (inner_scope : List Typed) → AgreeInScope p inner inner_scope → IfParsed (body inner) (IsFormula p objects inner_scope))
+        → IfParsed (quantified names vars groups body) IsQuantified
     quantified_is groups body named each =
         parsed_after (OfMany [] names p objects agree vars) IsQuantified (entered_groups names [] groups vars) (λ (inner : Variables). over (λ (f : Formula). (bound vars inner, f)) (body inner))
         (groups_are [] names p objects agree groups vars named) (inside_is body each)
@@ -151,39 +150,41 @@ module _ (names : Declarations) (p : Parts) (objects : List Typed) (agree : Agre
   atom_formula scope name ts is = is
 
   mutual
-    unfolding formula formulas IsWritten AreWritten
+    unfolding formula formulas IsLawful AreLawful
 
-    pub formula_is : (raw : RawFormula) → IsWritten raw → (vars : Variables) (scope : List Typed) → AgreeInScope p vars scope
-        → IfFine (formula names vars s raw) (IsFormula p objects scope)
-    formula_is (form.And' n members) written vars scope in_scope =
+    pub formula_is : (raw : RawFormula) → IsLawful raw → (vars : Variables) (scope : List Typed) → AgreeInScope p vars scope
+        → IfParsed (formula names vars s raw) (IsFormula p objects scope)
+    formula_is (form.And' n members) lawful vars scope in_scope =
         parsed_over (Every (IsFormula p objects scope)) (IsFormula p objects scope) And (all (formulas names vars s members)) (and_is scope)
-        (parsed_all (IsFormula p objects scope) (formulas names vars s members) (formulas_are members written vars scope in_scope))
-    formula_is (form.Or' n members) written vars scope in_scope =
+        (parsed_all (IsFormula p objects scope) (formulas names vars s members) (formulas_are members lawful vars scope in_scope))
+    formula_is (form.Or' n members) lawful vars scope in_scope =
         parsed_over (Every (IsFormula p objects scope)) (IsFormula p objects scope) Or (all (formulas names vars s members)) (or_is scope)
-        (parsed_all (IsFormula p objects scope) (formulas names vars s members) (formulas_are members written vars scope in_scope))
-    formula_is (not f) written vars scope in_scope =
-        parsed_over (IsFormula p objects scope) (IsFormula p objects scope) Not (formula names vars s f) (not_is scope) (formula_is f written vars scope in_scope)
-    formula_is (imply f g) written vars scope in_scope =
+        (parsed_all (IsFormula p objects scope) (formulas names vars s members) (formulas_are members lawful vars scope in_scope))
+    formula_is (not f) lawful vars scope in_scope =
+        parsed_over (IsFormula p objects scope) (IsFormula p objects scope) Not (formula names vars s f) (not_is scope) (formula_is f lawful vars scope in_scope)
+    formula_is (imply f g) lawful vars scope in_scope =
         parsed_two (IsFormula p objects scope) (IsFormula p objects scope) (IsFormula p objects scope) Imply (formula names vars s f) (formula names vars s g) (imply_is scope)
-        (formula_is f written.0 vars scope in_scope) (formula_is g written.1 vars scope in_scope)
-    formula_is (exists groups f) written vars scope in_scope =
+        (formula_is f lawful.0 vars scope in_scope) (formula_is g lawful.1 vars scope in_scope)
+    formula_is (exists groups f) lawful vars scope in_scope =
         parsed_over (λ (q : List Typed × Formula). AreVariables p scope q.0 × IsFormula p objects (q.0 ++ scope) q.1) (IsFormula p objects scope)
         (λ (q : List Typed × Formula). Exists q.0 q.1) (quantified names vars groups (λ inner. formula names inner s f)) (exists_is scope)
-        (quantified_is vars scope in_scope groups (λ inner. formula names inner s f) written.0 (λ inner inner_scope within. formula_is f written.1 inner inner_scope within))
-    formula_is (forall groups f) written vars scope in_scope =
+        (quantified_is vars scope in_scope groups (λ inner. formula names inner s f) lawful.0 (λ inner inner_scope within. formula_is f lawful.1 inner inner_scope within))
+    formula_is (forall groups f) lawful vars scope in_scope =
         parsed_over (λ (q : List Typed × Formula). AreVariables p scope q.0 × IsFormula p objects (q.0 ++ scope) q.1) (IsFormula p objects scope)
         (λ (q : List Typed × Formula). Forall q.0 q.1) (quantified names vars groups (λ inner. formula names inner s f)) (forall_is scope)
-        (quantified_is vars scope in_scope groups (λ inner. formula names inner s f) written.0 (λ inner inner_scope within. formula_is f written.1 inner inner_scope within))
-    formula_is (form.Atom place it args) written vars scope in_scope =
+        (quantified_is vars scope in_scope groups (λ inner. formula names inner s f) lawful.0 (λ inner inner_scope within. formula_is f lawful.1 inner inner_scope within))
+    formula_is (form.Atom place it args) lawful vars scope in_scope =
         parsed_over (IsAtom p objects scope it.name) (IsFormula p objects scope) (λ ts. Atom it.name ts) (atom_args names vars s place it args) (atom_formula scope it.name)
         (atom_is vars scope in_scope place it args)
-    formula_is (form.Compare place r left right) written vars scope in_scope = related_is vars scope in_scope place r left right written.0 written.1
+    formula_is (form.Compare place r left right) lawful vars scope in_scope = related_is vars scope in_scope place r left right lawful.0 lawful.1
 
-    formulas_are : {n : _} (members : Row_of-RawFormula n) → AreWritten members → (vars : Variables) (scope : List Typed) → AgreeInScope p vars scope
-        → Every (λ v. IfFine v (IsFormula p objects scope)) (formulas names vars s members)
-    formulas_are end_of-RawFormula written vars scope in_scope = tt
-    formulas_are (more_of-RawFormula member members) written vars scope in_scope =
-        (formula_is member written.0 vars scope in_scope, formulas_are members written.1 vars scope in_scope)
+    formulas_are : {n : _} (members : Row_of-RawFormula n) → AreLawful members → (vars : Variables) (scope : List Typed) → AgreeInScope p vars scope
+        → Every (λ v. IfParsed v (IsFormula p objects scope)) (formulas names vars s members)
+    formulas_are end_of-RawFormula lawful vars scope in_scope = tt
+    formulas_are (more_of-RawFormula member members) lawful vars scope in_scope =
+        (formula_is member lawful.0 vars scope in_scope, formulas_are members lawful.1 vars scope in_scope)
 
-pub conditions_are_well_formed : ConditionsAreWellFormed
-conditions_are_well_formed names p objects agree vars scope in_scope s raw written = formula_is names p objects agree s raw written vars scope in_scope
+pub conditions_are_well_formed : (names : Declarations) (p : Parts) (objects : List Typed) → Agree names p objects
+    → (vars : Variables) (scope : List Typed) → AgreeInScope p vars scope
+    → (s : Setting) (raw : RawFormula) → IsLawful raw → IfParsed (formula names vars s raw) (IsFormula p objects scope)
+conditions_are_well_formed names p objects agree vars scope in_scope s raw lawful = formula_is names p objects agree s raw lawful vars scope in_scope

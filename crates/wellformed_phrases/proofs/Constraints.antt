@@ -22,9 +22,8 @@ use Rattle.up_phrase.specs.Walks.{Checked}
 use Rattle.up_check.specs.Constraints.{for_each, ruled, pair, two, ruled_two, joined, constraints, each}
 use Rattle.up_check.specs.Metrics.{metric, metric_of}
 use Rattle.up_check.specs.Nodes.{forall}
-use Rattle.wellformed_phrases.specs.Agreement.{IfFine, Agree}
-use Rattle.wellformed_phrases.specs.Literal.{IsWritten, IsWrittenConstraint, AreWrittenConstraints, IsWrittenMetric}
-use Rattle.wellformed_phrases.specs.Laws.{ConstraintsAreWellFormed, MetricsAreWellFormed}
+use Rattle.wellformed_phrases.specs.Agreement.{IfParsed, Agree}
+use Rattle.wellformed_phrases.specs.LawfulPhrases.{IsLawful, IsLawfulConstraint, AreLawfulConstraints, IsLawfulMetric}
 use Rattle.wellformed_phrases.proofs.Parses.{parsed_over, parsed_two, parsed_after, parsed_and}
 use Rattle.wellformed_phrases.proofs.Members.{every_append}
 use Rattle.wellformed_phrases.proofs.Entering.{AreAdded, OfMany, added_both, groups_are, are_variables}
@@ -45,29 +44,29 @@ module _ (names : Declarations) (p : Parts) (agree : Agree names p p.objects) wh
   abbrev AreConstraints : List Constraint → Type 0
   AreConstraints = Every (IsConstraint p)
 
-  read_is : (vars : Variables) → AreScope vars → (raw : RawFormula) → IsWritten raw → IfFine (formula names vars setting.Constraint raw) (IsRuled vars)
-  read_is vars scope raw written =
+  read_is : (vars : Variables) → AreScope vars → (raw : RawFormula) → IsLawful raw → IfParsed (formula names vars setting.Constraint raw) (IsRuled vars)
+  read_is vars scope raw lawful =
       parsed_and (IsFormula p p.objects (map typed vars)) IsPlain (formula names vars setting.Constraint raw)
-      (formula_is names p p.objects agree setting.Constraint raw written vars (map typed vars) (agree_alone p vars scope.known)) (formula_plain names raw vars)
+      (formula_is names p p.objects agree setting.Constraint raw lawful vars (map typed vars) (agree_alone p vars scope.known)) (formula_plain names raw vars)
 
   variables_are : (vars : Variables) → AreScope vars → AreVariables p [] (map typed vars)
   variables_are vars scope = are_variables p [] [] (agree_empty p) [] vars scope.are scope.known
 
-  one_is : (vars : Variables) → AreScope vars → (made : Formula → Rule) → ((f : Formula) → formulas_of (made f) ≡ f ∷ []) → (raw : RawFormula) → IsWritten raw
-      → IfFine (ruled names vars made raw) AreConstraints
-  one_is vars scope made of raw written =
+  one_is : (vars : Variables) → AreScope vars → (made : Formula → Rule) → ((f : Formula) → formulas_of (made f) ≡ f ∷ []) → (raw : RawFormula) → IsLawful raw
+      → IfParsed (ruled names vars made raw) AreConstraints
+  one_is vars scope made of raw lawful =
       parsed_over (IsRuled vars) AreConstraints (λ (f : Formula). for_each vars (made f)) (formula names vars setting.Constraint raw)
-      (λ f is. (record { vars = variables_are vars scope; formulas = subst (Every (IsRuled vars)) (sym (of f)) (is, tt) }, tt)) (read_is vars scope raw written)
+      (λ f is. (record { vars = variables_are vars scope; formulas = subst (Every (IsRuled vars)) (sym (of f)) (is, tt) }, tt)) (read_is vars scope raw lawful)
 
   two_are : (vars : Variables) → AreScope vars → (made : Formula → Formula → Rule) → ((f g : Formula) → formulas_of (made f g) ≡ f ∷ g ∷ []) → (one other : RawFormula)
-      → IsWritten one → IsWritten other → IfFine (ruled_two names vars made one other) AreConstraints
-  two_are vars scope made of one other written also =
+      → IsLawful one → IsLawful other → IfParsed (ruled_two names vars made one other) AreConstraints
+  two_are vars scope made of one other lawful also =
       parsed_over (λ (both : Formula × Formula). IsRuled vars both.0 × IsRuled vars both.1) AreConstraints (λ (both : Formula × Formula). for_each vars (made both.0 both.1)) (two names vars one other)
       (λ both is. (record { vars = variables_are vars scope; formulas = subst (Every (IsRuled vars)) (sym (of both.0 both.1)) (is.0, (is.1, tt)) }, tt))
       (parsed_two (IsRuled vars) (IsRuled vars) (λ (both : Formula × Formula). IsRuled vars both.0 × IsRuled vars both.1) pair
-      (formula names vars setting.Constraint one) (formula names vars setting.Constraint other) (λ f g is so. (is, so)) (read_is vars scope one written) (read_is vars scope other also))
+      (formula names vars setting.Constraint one) (formula names vars setting.Constraint other) (λ f g is so. (is, so)) (read_is vars scope one lawful) (read_is vars scope other also))
 
-  joined_are : (vs : List (Checked (List Constraint))) → Every (λ v. IfFine v AreConstraints) vs → IfFine (joined vs) AreConstraints
+  joined_are : (vs : List (Checked (List Constraint))) → Every (λ v. IfParsed v AreConstraints) vs → IfParsed (joined vs) AreConstraints
   joined_are [] are = tt
   joined_are (v ∷ vs) are =
       parsed_two AreConstraints AreConstraints AreConstraints (λ xs ys. xs ++ ys) v (joined vs) (λ xs ys one two. every_append (IsConstraint p) xs ys one two) are.0 (joined_are vs are.1)
@@ -79,38 +78,40 @@ module _ (names : Declarations) (p : Parts) (agree : Agree names p p.objects) wh
   }
 
   mutual
-    unfolding constraints each IsWrittenConstraint AreWrittenConstraints
+    unfolding constraints each IsLawfulConstraint AreLawfulConstraints
 
-    constraints_are : (raw : RawConstraint) → IsWrittenConstraint raw → (vars : Variables) → AreScope vars → IfFine (constraints names vars raw) AreConstraints
-    constraints_are (form.And' n members) written vars scope = joined_are (each names vars members) (each_are members written vars scope)
-    constraints_are (forall groups body) written vars scope =
+    constraints_are : (raw : RawConstraint) → IsLawfulConstraint raw → (vars : Variables) → AreScope vars → IfParsed (constraints names vars raw) AreConstraints
+    constraints_are (form.And' n members) lawful vars scope = joined_are (each names vars members) (each_are members lawful vars scope)
+    constraints_are (forall groups body) lawful vars scope =
         parsed_after (OfMany [] names p p.objects agree vars) AreConstraints (entered_groups names [] groups vars) (λ (inner : Variables). constraints names inner body)
-        (groups_are [] names p p.objects agree groups vars written.0) (λ inner many. constraints_are body written.1 inner (inside vars inner scope many))
-    constraints_are (form.Always f) written vars scope = one_is vars scope rule.Always (λ g. refl) f written
-    constraints_are (form.Sometime f) written vars scope = one_is vars scope rule.Sometime (λ g. refl) f written
-    constraints_are (form.AtMostOnce f) written vars scope = one_is vars scope rule.AtMostOnce (λ g. refl) f written
-    constraints_are (form.SometimeAfter f g) written vars scope = two_are vars scope rule.SometimeAfter (λ a b. refl) f g written.0 written.1
-    constraints_are (form.SometimeBefore f g) written vars scope = two_are vars scope rule.SometimeBefore (λ a b. refl) f g written.0 written.1
+        (groups_are [] names p p.objects agree groups vars lawful.0) (λ inner many. constraints_are body lawful.1 inner (inside vars inner scope many))
+    constraints_are (form.Always f) lawful vars scope = one_is vars scope rule.Always (λ g. refl) f lawful
+    constraints_are (form.Sometime f) lawful vars scope = one_is vars scope rule.Sometime (λ g. refl) f lawful
+    constraints_are (form.AtMostOnce f) lawful vars scope = one_is vars scope rule.AtMostOnce (λ g. refl) f lawful
+    constraints_are (form.SometimeAfter f g) lawful vars scope = two_are vars scope rule.SometimeAfter (λ a b. refl) f g lawful.0 lawful.1
+    constraints_are (form.SometimeBefore f g) lawful vars scope = two_are vars scope rule.SometimeBefore (λ a b. refl) f g lawful.0 lawful.1
 
-    each_are : {n : _} (members : Row_of-RawConstraint n) → AreWrittenConstraints members → (vars : Variables) → AreScope vars
-        → Every (λ v. IfFine v AreConstraints) (each names vars members)
-    each_are end_of-RawConstraint written vars scope = tt
-    each_are (more_of-RawConstraint member members) written vars scope = (constraints_are member written.0 vars scope, each_are members written.1 vars scope)
+    each_are : {n : _} (members : Row_of-RawConstraint n) → AreLawfulConstraints members → (vars : Variables) → AreScope vars
+        → Every (λ v. IfParsed v AreConstraints) (each names vars members)
+    each_are end_of-RawConstraint lawful vars scope = tt
+    each_are (more_of-RawConstraint member members) lawful vars scope = (constraints_are member lawful.0 vars scope, each_are members lawful.1 vars scope)
 
-  pub all_are : (raw : RawConstraint) → IsWrittenConstraint raw → IfFine (constraints names [] raw) AreConstraints
-  all_are raw written = constraints_are raw written [] (record { are = tt; known = tt })
+  pub all_are : (raw : RawConstraint) → IsLawfulConstraint raw → IfParsed (constraints names [] raw) AreConstraints
+  all_are raw lawful = constraints_are raw lawful [] (record { are = tt; known = tt })
 
-  pub metric_is : (raw : Option RawMetric) → IsWrittenMetric raw → IfFine (metric_of names raw) (OnMetric p)
-  metric_is None written = tt
-  metric_is (Some raw) written =
+  pub metric_is : (raw : Option RawMetric) → IsLawfulMetric raw → IfParsed (metric_of names raw) (OnMetric p)
+  metric_is None lawful = tt
+  metric_is (Some raw) lawful =
       parsed_over (λ (m : Metric). IsExpr p p.objects [] m.value × IsPlainExpr m.value) (OnMetric p) (λ (it : Metric). Some it) (metric names raw) (λ m is. is)
       (parsed_over (λ (x : Expr). IsExpr p p.objects [] x × IsPlainExpr x) (λ (m : Metric). IsExpr p p.objects [] m.value × IsPlainExpr m.value)
       (λ (value : Expr). record { minimize = raw.minimize; value = value }) (expr names [] setting.Metric raw.value) (λ x is. is)
       (parsed_and (IsExpr p p.objects []) IsPlainExpr (expr names [] setting.Metric raw.value)
-      (expr_is names p p.objects agree [] [] (agree_empty p) setting.Metric raw.value written) (expr_plain names setting.Metric tt [] raw.value)))
+      (expr_is names p p.objects agree [] [] (agree_empty p) setting.Metric raw.value lawful) (expr_plain names setting.Metric tt [] raw.value)))
 
-pub constraints_are_well_formed : ConstraintsAreWellFormed
-constraints_are_well_formed names p agree raw written = all_are names p agree raw written
+pub constraints_are_well_formed : (names : Declarations) (p : Parts) → Agree names p p.objects
+    → (raw : RawConstraint) → IsLawfulConstraint raw → IfParsed (constraints names [] raw) (Every (IsConstraint p))
+constraints_are_well_formed names p agree raw lawful = all_are names p agree raw lawful
 
-pub metrics_are_well_formed : MetricsAreWellFormed
-metrics_are_well_formed names p agree raw written = metric_is names p agree raw written
+pub metrics_are_well_formed : (names : Declarations) (p : Parts) → Agree names p p.objects
+    → (raw : Option RawMetric) → IsLawfulMetric raw → IfParsed (metric_of names raw) (OnMetric p)
+metrics_are_well_formed names p agree raw lawful = metric_is names p agree raw lawful

@@ -25,16 +25,15 @@ use Rattle.up_phrase.specs.Named.{at, object, is_object}
 use Rattle.up_phrase.specs.Scopes.{type_named, type_fault}
 use Rattle.up_phrase.specs.Walks.{Checked, unless, in_turn}
 use Rattle.up_declare.specs.Declaring.{and_predicate, and_function, declared_as, with_object, with_group, with_objects, is_symbol, each_of, arg_types, new_symbol, with_predicate, with_predicates, given, gives_fault, signature, with_function, with_function_group, with_functions}
-use Rattle.wellformed_phrases.specs.Agreement.{IfFine}
-use Rattle.wellformed_phrases.specs.Literal.{HaveNames}
+use Rattle.wellformed_phrases.specs.Agreement.{IfParsed}
+use Rattle.wellformed_phrases.specs.LawfulPhrases.{HaveNames}
 use Rattle.wellformed_phrases.specs.Sound.{GivesType, AreSound, AreNamed, AreNamedFunctions}
-use Rattle.wellformed_phrases.specs.Laws.{ObjectsKeepSound, PredicatesKeepSound, FunctionsKeepSound}
 use Rattle.wellformed_phrases.proofs.Parses.{parsed_as, parsed_over, parsed_after, parsed_behind, holds}
 use Rattle.wellformed_phrases.proofs.Members.{every_as, every_append, names_in, there}
 use Rattle.wellformed_phrases.proofs.Facts.{differ_more}
 
 pub parsed_turns : {X A : Type 0} (P : A → Type 0) (Q : X → Type 0) (step : X → A → Checked A) (xs : List X)
-    → ((x : X) (a : A) → Q x → P a → IfFine (step x a) P) → Every Q xs → (a : A) → P a → IfFine (in_turn step xs a) P
+    → ((x : X) (a : A) → Q x → P a → IfParsed (step x a) P) → Every Q xs → (a : A) → P a → IfParsed (in_turn step xs a) P
 parsed_turns P Q step [] on all a is = is
 parsed_turns P Q step (x ∷ xs) on all a is =
     parsed_after P P (step x a) (in_turn step xs) (on x a all.0 is) (λ b so. parsed_turns P Q step xs on all.1 b so)
@@ -133,10 +132,10 @@ stated_known types names same (Some of) none = known_at types names same of.name
 
 module _ (types : List (Name × Name)) (OfFunction : Gives → Type 0) (OfObject : Name → Type 0) where
   object_kept : (of : Name) (it : Ident) (names : Declarations) → OfObject of → IsName it.name → Kept types OfObject OfFunction names
-      → IfFine (with_object of it names) (Kept types OfObject OfFunction)
+      → IfParsed (with_object of it names) (Kept types OfObject OfFunction)
   object_kept of it names so named kept = by (type_of names it.name) refl
     where
-      by : (o : Option Name) → type_of names it.name ≡ o → IfFine (declared_as o of it names) (Kept types OfObject OfFunction)
+      by : (o : Option Name) → type_of names it.name ≡ o → IfParsed (declared_as o of it names) (Kept types OfObject OfFunction)
       by (Some first) is = parsed_behind (Kept types OfObject OfFunction) (unless (same_name first of) (at it.place Duplicate it.name)) (parsed names) (λ none. kept)
       by None is = record {
         same = kept.same;
@@ -154,7 +153,7 @@ module _ (types : List (Name × Name)) (OfFunction : Gives → Type 0) (OfObject
 
 module _ (types : List (Name × Name)) where
   group_kept : (group : RawGroup) (names : Declarations) → Every (λ (it : Ident). IsName it.name) group.names → AllKept types names
-      → IfFine (with_group group names) (AllKept types)
+      → IfParsed (with_group group names) (AllKept types)
   group_kept group names named kept =
       parsed_after (Kept types Either (GivesKnown types)) (AllKept types) (in_turn (with_object (type_named group.of)) group.names names)
       (λ more. behind (type_fault more group.of) (parsed more))
@@ -195,7 +194,7 @@ module _ (types : List (Name × Name)) where
   each_known of [] is = tt
   each_known of (it ∷ others) is = (is, each_known of others is)
 
-  args_known : (names : Declarations) → names.types ≡ types → (params : List RawGroup) → IfFine (arg_types names params) (Every (IsKnown types))
+  args_known : (names : Declarations) → names.types ≡ types → (params : List RawGroup) → IfParsed (arg_types names params) (Every (IsKnown types))
   args_known names same [] = tt
   args_known names same (group ∷ others) =
       parsed_behind (Every (IsKnown types)) (type_fault names group.of) (before (each_of (type_named group.of) group.names) (arg_types names others)) (λ none.
@@ -206,7 +205,7 @@ module _ (types : List (Name × Name)) where
   abbrev IsNew : Declarations → Name → List Name → Type 0
   IsNew names name args = Every (IsKnown types) args × (¬ Member name (names_in names.predicates ++ names_in names.functions))
 
-  new_is : (names : Declarations) → names.types ≡ types → (symbol : RawSymbol) → IfFine (new_symbol names symbol) (IsNew names symbol.name.name)
+  new_is : (names : Declarations) → names.types ≡ types → (symbol : RawSymbol) → IfParsed (new_symbol names symbol) (IsNew names symbol.name.name)
   new_is names same symbol =
       parsed_behind (IsNew names symbol.name.name) (unless (not (is_symbol names symbol.name.name)) (at symbol.name.place Duplicate symbol.name.name)) (arg_types names symbol.params) (λ none.
       parsed_as (Every (IsKnown types)) (IsNew names symbol.name.name) (arg_types names symbol.params)
@@ -217,7 +216,7 @@ module _ (types : List (Name × Name)) where
             [ inl a ↦ inl (there symbol.name.name names.predicates a) | inr b ↦ inr (there symbol.name.name names.functions b) ])),
       )) (args_known names same symbol.params))
 
-  predicate_kept : (symbol : RawSymbol) (names : Declarations) → IsName symbol.name.name → AllKept types names → IfFine (with_predicate symbol names) (AllKept types)
+  predicate_kept : (symbol : RawSymbol) (names : Declarations) → IsName symbol.name.name → AllKept types names → IfParsed (with_predicate symbol names) (AllKept types)
   predicate_kept symbol names named kept =
       parsed_after (IsNew names symbol.name.name) (AllKept types) (new_symbol names symbol) (λ args. parsed (and_predicate names symbol.name.name args)) (new_is names kept.same symbol) (λ args new.
       record {
@@ -235,7 +234,7 @@ module _ (types : List (Name × Name)) where
       })
 
   function_kept : (OfFunction : Gives → Type 0) (of : RawGives) (symbol : RawSymbol) (names : Declarations) → OfFunction (given of) → IsName symbol.name.name
-      → Kept types (IsKnown types) OfFunction names → IfFine (with_function of symbol names) (Kept types (IsKnown types) OfFunction)
+      → Kept types (IsKnown types) OfFunction names → IfParsed (with_function of symbol names) (Kept types (IsKnown types) OfFunction)
   function_kept OfFunction of symbol names so named kept =
       parsed_after (IsNew names symbol.name.name) (Kept types (IsKnown types) OfFunction) (new_symbol names symbol) (λ args. parsed (and_function names symbol.name.name (signature of args)))
       (new_is names kept.same symbol) (λ args new.
@@ -259,7 +258,7 @@ module _ (types : List (Name × Name)) where
   given_known names same stated.Number none = tt
   given_known names same (stated.Object of) none = known_at types names same of.name (holds (is_type names of.name) (at of.place UnknownName of.name) none)
 
-  functions_kept : (group : RawFunctions) (names : Declarations) → AreNamed group.functions → AllKept types names → IfFine (with_function_group group names) (AllKept types)
+  functions_kept : (group : RawFunctions) (names : Declarations) → AreNamed group.functions → AllKept types names → IfParsed (with_function_group group names) (AllKept types)
   functions_kept group names named kept =
       parsed_after (Kept types (IsKnown types) Either) (AllKept types) (in_turn (with_function group.gives) group.functions names)
       (λ more. behind (gives_fault more group.gives) (parsed more))
@@ -305,32 +304,32 @@ over_kept : (types : List (Name × Name)) (names : Declarations) → AllKept typ
 over_kept types names kept = (kept.same, sound_of types names kept)
 
 module _ (types : List (Name × Name)) (names : Declarations) (over : SoundOver types names) where
-  pub objects_over : (groups : List RawGroup) → HaveNames groups → IfFine (with_objects groups names) (SoundOver types)
+  pub objects_over : (groups : List RawGroup) → HaveNames groups → IfParsed (with_objects groups names) (SoundOver types)
   objects_over groups named =
       parsed_as (AllKept types) (SoundOver types) (with_objects groups names) (over_kept types)
       (parsed_turns (AllKept types) (λ (group : RawGroup). Every (λ (it : Ident). IsName it.name) group.names) with_group groups
       (λ group more is kept. group_kept types group more is kept) named names (kept_over types names over))
 
-  pub predicates_over : (symbols : List RawSymbol) → AreNamed symbols → IfFine (with_predicates symbols names) (SoundOver types)
+  pub predicates_over : (symbols : List RawSymbol) → AreNamed symbols → IfParsed (with_predicates symbols names) (SoundOver types)
   predicates_over symbols named =
       parsed_as (AllKept types) (SoundOver types) (with_predicates symbols names) (over_kept types)
       (parsed_turns (AllKept types) (λ (symbol : RawSymbol). IsName symbol.name.name) with_predicate symbols
       (λ symbol more is kept. predicate_kept types symbol more is kept) named names (kept_over types names over))
 
-  pub functions_over : (groups : List RawFunctions) → AreNamedFunctions groups → IfFine (with_functions groups names) (SoundOver types)
+  pub functions_over : (groups : List RawFunctions) → AreNamedFunctions groups → IfParsed (with_functions groups names) (SoundOver types)
   functions_over groups named =
       parsed_as (AllKept types) (SoundOver types) (with_functions groups names) (over_kept types)
       (parsed_turns (AllKept types) (λ (group : RawFunctions). AreNamed group.functions) with_function_group groups
       (λ group more is kept. functions_kept types group more is kept) named names (kept_over types names over))
 
-pub objects_keep_sound : ObjectsKeepSound
+pub objects_keep_sound : (names : Declarations) → AreSound names → (groups : List RawGroup) → HaveNames groups → IfParsed (with_objects groups names) AreSound
 objects_keep_sound names sound groups named =
     parsed_as (SoundOver names.types) AreSound (with_objects groups names) (λ more so. so.1) (objects_over names.types names (refl, sound) groups named)
 
-pub predicates_keep_sound : PredicatesKeepSound
+pub predicates_keep_sound : (names : Declarations) → AreSound names → (symbols : List RawSymbol) → AreNamed symbols → IfParsed (with_predicates symbols names) AreSound
 predicates_keep_sound names sound symbols named =
     parsed_as (SoundOver names.types) AreSound (with_predicates symbols names) (λ more so. so.1) (predicates_over names.types names (refl, sound) symbols named)
 
-pub functions_keep_sound : FunctionsKeepSound
+pub functions_keep_sound : (names : Declarations) → AreSound names → (groups : List RawFunctions) → AreNamedFunctions groups → IfParsed (with_functions groups names) AreSound
 functions_keep_sound names sound groups named =
     parsed_as (SoundOver names.types) AreSound (with_functions groups names) (λ more so. so.1) (functions_over names.types names (refl, sound) groups named)

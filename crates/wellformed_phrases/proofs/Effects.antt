@@ -28,8 +28,8 @@ use Rattle.up_phrase.specs.Terms.{term}
 use Rattle.up_phrase.specs.Walks.{Checked}
 use Rattle.up_effect.specs.Effects.{atom, added, deleted, target_args, number_changed, assigned_by, assigned, number_changed_in, changed, kept_number, undefined}
 use Rattle.up_check.specs.Lists.{function}
-use Rattle.wellformed_phrases.specs.Agreement.{IfFine, Agree, AgreeInScope}
-use Rattle.wellformed_phrases.specs.Literal.{HasLiterals}
+use Rattle.wellformed_phrases.specs.Agreement.{IfParsed, Agree, AgreeInScope}
+use Rattle.wellformed_phrases.specs.LawfulPhrases.{HasLiterals}
 use Rattle.wellformed_phrases.proofs.Parses.{parsed_as, parsed_over, parsed_two, parsed_followed}
 use Rattle.wellformed_phrases.proofs.Tables.{function_is, at_some}
 use Rattle.wellformed_phrases.proofs.Terms.{applied_are, term_is}
@@ -38,24 +38,24 @@ use Rattle.wellformed_phrases.proofs.Conditions.{atom_is, each_reads}
 
 module _ (names : Declarations) (p : Parts) (objects : List Typed) (agree : Agree names p objects)
     (vars : Variables) (scope : List Typed) (in_scope : AgreeInScope p vars scope) where
-  pub added_is : (it : RawCall) → IfFine (added names vars it) (IsEffect p objects scope)
+  pub added_is : (it : RawCall) → IfParsed (added names vars it) (IsEffect p objects scope)
   added_is it =
       parsed_over (IsAtom p objects scope it.name.name) (IsEffect p objects scope) (effect.Add it.name.name) (atom names vars it) (λ ts is. is)
       (atom_is names p objects agree Plain vars scope in_scope it.place it.name it.args)
 
-  pub deleted_is : (it : RawCall) → IfFine (deleted names vars it) (IsEffect p objects scope)
+  pub deleted_is : (it : RawCall) → IfParsed (deleted names vars it) (IsEffect p objects scope)
   deleted_is it =
       parsed_over (IsAtom p objects scope it.name.name) (IsEffect p objects scope) (effect.Delete it.name.name) (atom names vars it) (λ ts is. is)
       (atom_is names p objects agree Plain vars scope in_scope it.place it.name it.args)
 
-  target_is : (P : List Name → Type 0) (it : RawCall) (declared : Checked (List Name)) → IfFine declared P
-      → IfFine (target_args names vars it declared) (λ ts. (types : List Name) × P types × TermsFit p objects scope ts types)
+  target_is : (P : List Name → Type 0) (it : RawCall) (declared : Checked (List Name)) → IfParsed declared P
+      → IfParsed (target_args names vars it declared) (λ ts. (types : List Name) × P types × TermsFit p objects scope ts types)
   target_is P it declared is =
       applied_are names p objects agree vars scope in_scope Plain P it.place it.name.name declared (map (term names vars Plain) it.args) is
       (each_reads names p objects agree Plain vars scope in_scope it.args)
 
   number_is : (c : Change) (it : RawCall) (value : RawTerm) (declared : Checked (List Name)) → HasLiterals value
-      → IfFine declared (GivesNumbers names p objects agree vars scope in_scope Plain it.name.name) → IfFine (number_changed names vars c it value declared) (IsEffect p objects scope)
+      → IfParsed declared (GivesNumbers names p objects agree vars scope in_scope Plain it.name.name) → IfParsed (number_changed names vars c it value declared) (IsEffect p objects scope)
   number_is c it value declared has is =
       parsed_two (λ ts. (types : List Name) × GivesNumbers names p objects agree vars scope in_scope Plain it.name.name types × TermsFit p objects scope ts types) (IsExpr p objects scope) (IsEffect p objects scope)
       (effect.Number c it.name.name) (target_args names vars it declared) (expr names vars Plain value)
@@ -73,7 +73,7 @@ module _ (names : Declarations) (p : Parts) (objects : List Typed) (agree : Agre
   fitting signature ts (types, is, fit) = subst (TermsFit p objects scope ts) is fit
 
   assigned_by_is : (it : RawCall) (value : RawTerm) (signature : Signature) (g : Gives) → HasLiterals value → function_of names it.name.name ≡ Some signature
-      → signature.gives ≡ g → IfFine (assigned_by names vars it value signature.args g) (IsEffect p objects scope)
+      → signature.gives ≡ g → IfParsed (assigned_by names vars it value signature.args g) (IsEffect p objects scope)
   assigned_by_is it value signature gives.Number has is so =
       number_is change.Assign it value (parsed signature.args) has (signature, is, refl, subst GivesNumber (sym so) tt)
   assigned_by_is it value signature (gives.Object of) has is so =
@@ -83,16 +83,16 @@ module _ (names : Declarations) (p : Parts) (objects : List Typed) (agree : Agre
       (target_is (λ types. types ≡ signature.args) it (parsed signature.args) refl) (term_is names p objects agree vars scope in_scope Plain value (Some of))
 
   assigned_is : (it : RawCall) (value : RawTerm) (found : Option Signature) → HasLiterals value → function_of names it.name.name ≡ found
-      → IfFine (assigned names vars it value found) (IsEffect p objects scope)
+      → IfParsed (assigned names vars it value found) (IsEffect p objects scope)
   assigned_is it value None has is = tt
   assigned_is it value (Some signature) has is = assigned_by_is it value signature signature.gives has is refl
 
-  number_in : (c : Change) (it : RawCall) (value : RawTerm) → HasLiterals value → IfFine (number_changed_in names vars c it value) (IsEffect p objects scope)
+  number_in : (c : Change) (it : RawCall) (value : RawTerm) → HasLiterals value → IfParsed (number_changed_in names vars c it value) (IsEffect p objects scope)
   number_in c it value has =
       number_is c it value (numeric_function it.name (function_of names it.name.name)) has
       (numeric_is names p objects agree vars scope in_scope Plain it.name (function_of names it.name.name) refl)
 
-  pub changed_is : (c : RawChange) (it : RawCall) (value : RawTerm) → HasLiterals value → IfFine (changed names vars c it value) (IsEffect p objects scope)
+  pub changed_is : (c : RawChange) (it : RawCall) (value : RawTerm) → HasLiterals value → IfParsed (changed names vars c it value) (IsEffect p objects scope)
   changed_is raw_change.Assign it value has = assigned_is it value (function_of names it.name.name) has refl
   changed_is raw_change.Increase it value has = number_in change.Increase it value has
   changed_is raw_change.Decrease it value has = number_in change.Decrease it value has
@@ -103,7 +103,7 @@ module _ (names : Declarations) (p : Parts) (objects : List Typed) (agree : Agre
   kept_is place gives.Number none = cc
   kept_is place (gives.Object of) none = (of, refl)
 
-  pub undefined_is : (it : RawCall) (place : Place) (found : Option Signature) → function_of names it.name.name ≡ found → IfFine (undefined names vars it place found) (IsEffect p objects scope)
+  pub undefined_is : (it : RawCall) (place : Place) (found : Option Signature) → function_of names it.name.name ≡ found → IfParsed (undefined names vars it place found) (IsEffect p objects scope)
   undefined_is it place None is = tt
   undefined_is it place (Some signature) is =
       parsed_over (IsObjectArgs signature) (IsEffect p objects scope) (effect.Undefine it.name.name)

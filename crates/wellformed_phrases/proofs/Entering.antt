@@ -21,8 +21,8 @@ use Rattle.up_phrase.specs.Lookups.{is_type}
 use Rattle.up_phrase.specs.Named.{at}
 use Rattle.up_phrase.specs.Scopes.{Variables, variable_type, is_taken, entered, entered_groups, type_named, type_fault, typed}
 use Rattle.up_phrase.specs.Conditions.{bound}
-use Rattle.wellformed_phrases.specs.Agreement.{IfFine, Agree, AgreeInScope}
-use Rattle.wellformed_phrases.specs.Literal.{HaveNames}
+use Rattle.wellformed_phrases.specs.Agreement.{IfParsed, Agree, AgreeInScope}
+use Rattle.wellformed_phrases.specs.LawfulPhrases.{HaveNames}
 use Rattle.wellformed_phrases.proofs.Parses.{parsed_as, parsed_after, parsed_behind, holds}
 use Rattle.wellformed_phrases.proofs.Tables.{type_is}
 use Rattle.wellformed_phrases.proofs.Members.{member_front, member_back, every_map, every_as, every_append, listed, names_in, there, found_is, found_named, lookup_append, type_append, has_type}
@@ -50,12 +50,12 @@ module _ (barred : List Name) where
   abbrev OfOne : Name → Variables → Variables → Type 0
   OfOne of vars inner = (added : Variables) × (inner ≡ vars ++ added) × AreAdded vars added × Every (λ e. e.1 ≡ of) added
 
-  entered_are : (of : Name) (items : List Ident) (vars : Variables) → Every (λ (it : Ident). IsName it.name) items → IfFine (entered barred of items vars) (OfOne of vars)
+  entered_are : (of : Name) (items : List Ident) (vars : Variables) → Every (λ (it : Ident). IsName it.name) items → IfParsed (entered barred of items vars) (OfOne of vars)
   entered_are of [] vars named = ([], sym (append-nil vars), tt, tt)
   entered_are of (it ∷ others) vars named = by (is_taken barred vars it.name) refl (entered_are of others (vars ++ (it.name, of) ∷ []) named.1)
     where
-      by : (b : Bool) → is_taken barred vars it.name ≡ b → IfFine (entered barred of others (vars ++ (it.name, of) ∷ [])) (OfOne of (vars ++ (it.name, of) ∷ []))
-          → IfFine (if b then rejected (at it.place Duplicate it.name) [] else entered barred of others (vars ++ (it.name, of) ∷ [])) (OfOne of vars)
+      by : (b : Bool) → is_taken barred vars it.name ≡ b → IfParsed (entered barred of others (vars ++ (it.name, of) ∷ [])) (OfOne of (vars ++ (it.name, of) ∷ []))
+          → IfParsed (if b then rejected (at it.place Duplicate it.name) [] else entered barred of others (vars ++ (it.name, of) ∷ [])) (OfOne of vars)
       by true taken rest = tt
       by false free rest =
           parsed_as (OfOne of (vars ++ (it.name, of) ∷ [])) (OfOne of vars) (entered barred of others (vars ++ (it.name, of) ∷ []))
@@ -88,7 +88,7 @@ module _ (barred : List Name) where
       every_append (λ e. IsType p e.1) one two (every_as (λ e. e.1 ≡ of) (λ e. IsType p e.1) one (λ e so. subst (IsType p) (sym so) known) typed_so) known_so,
     )
 
-    pub groups_are : (groups : List RawGroup) (vars : Variables) → HaveNames groups → IfFine (entered_groups names barred groups vars) (OfMany vars)
+    pub groups_are : (groups : List RawGroup) (vars : Variables) → HaveNames groups → IfParsed (entered_groups names barred groups vars) (OfMany vars)
     groups_are [] vars named = ([], sym (append-nil vars), tt, tt)
     groups_are (group ∷ others) vars named =
         parsed_after (OfOne (type_named group.of) vars) (OfMany vars) (entered barred (type_named group.of) group.names vars)

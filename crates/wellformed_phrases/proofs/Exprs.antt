@@ -33,9 +33,8 @@ use Rattle.std.specs.Option.{option_map_or}
 use Rattle.up_phrase.specs.declared.reason.Reason.TheVariants.{Expected}
 use Rattle.up_phrase.specs.Named.{bare}
 use Rattle.up_check.specs.Lists.{function}
-use Rattle.wellformed_phrases.specs.Agreement.{IfFine, Agree, AgreeInScope}
-use Rattle.wellformed_phrases.specs.Literal.{HasLiterals, HaveLiterals}
-use Rattle.wellformed_phrases.specs.Laws.{ExpressionsAreWellFormed}
+use Rattle.wellformed_phrases.specs.Agreement.{IfParsed, Agree, AgreeInScope}
+use Rattle.wellformed_phrases.specs.LawfulPhrases.{HasLiterals, HaveLiterals}
 use Rattle.wellformed_phrases.proofs.Parses.{parsed_over, parsed_after, parsed_all}
 use Rattle.wellformed_phrases.proofs.Tables.{function_is, at_some}
 use Rattle.wellformed_phrases.proofs.Terms.{applied_are, terms_are}
@@ -61,11 +60,11 @@ module _ (names : Declarations) (p : Parts) (objects : List Typed) (agree : Agre
   GivesNumbers f types = (signature : Signature) × (function_of names f ≡ Some signature) × (signature.args ≡ types) × GivesNumber signature.gives
 
   giver_is : (f : Ident) (signature : Signature) (g : Gives) → function_of names f.name ≡ Some signature → signature.gives ≡ g
-      → IfFine (number_giver f signature.args g) (GivesNumbers f.name)
+      → IfParsed (number_giver f signature.args g) (GivesNumbers f.name)
   giver_is f signature gives.Number is so = (signature, is, refl, subst GivesNumber (sym so) tt)
   giver_is f signature (gives.Object of) is so = tt
 
-  pub numeric_is : (f : Ident) (found : Option Signature) → function_of names f.name ≡ found → IfFine (numeric_function f found) (GivesNumbers f.name)
+  pub numeric_is : (f : Ident) (found : Option Signature) → function_of names f.name ≡ found → IfParsed (numeric_function f found) (GivesNumbers f.name)
   numeric_is f None is = tt
   numeric_is f (Some signature) is = giver_is f signature signature.gives is refl
 
@@ -104,7 +103,7 @@ module _ (names : Declarations) (p : Parts) (objects : List Typed) (agree : Agre
       (halved_is turns op (take n (a ∷ b ∷ es)) (every_take (IsExpr p objects scope) n (a ∷ b ∷ es) are))
       (halved_is turns op (drop n (a ∷ b ∷ es)) (every_drop (IsExpr p objects scope) n (a ∷ b ∷ es) are))
 
-  arithmetic_is : (op : Operator) (place : Place) (es : List Expr) → Every (IsExpr p objects scope) es → IfFine (arithmetic op place es) (IsExpr p objects scope)
+  arithmetic_is : (op : Operator) (place : Place) (es : List Expr) → Every (IsExpr p objects scope) es → IfParsed (arithmetic op place es) (IsExpr p objects scope)
   arithmetic_is op place es are = by (paired op es) (halved_is (length es) op es are)
     where
       signed : (e : Expr) → IsExpr p objects scope e → (b : Bool) → IsExpr p objects scope (if b then negative e else e)
@@ -112,11 +111,11 @@ module _ (names : Declarations) (p : Parts) (objects : List Typed) (agree : Agre
       signed e is false = is
 
       by : (made : Option Expr) → IfSome made (IsExpr p objects scope)
-          → IfFine (option_map_or (λ e. parsed (if is_negation op (length es) then negative e else e)) made (rejected (bare place Expected) [])) (IsExpr p objects scope)
+          → IfParsed (option_map_or (λ e. parsed (if is_negation op (length es) then negative e else e)) made (rejected (bare place Expected) [])) (IsExpr p objects scope)
       by None is = tt
       by (Some e) is = signed e is (is_negation op (length es))
 
-  bare_is : (it : Ident) (at_setting : Setting) → IfFine (bare_name names at_setting it) (IsExpr p objects scope)
+  bare_is : (it : Ident) (at_setting : Setting) → IfParsed (bare_name names at_setting it) (IsExpr p objects scope)
   bare_is it setting.Plain = tt
   bare_is it setting.Constraint = tt
   bare_is it setting.Metric =
@@ -128,7 +127,7 @@ module _ (names : Declarations) (p : Parts) (objects : List Typed) (agree : Agre
   mutual
     unfolding expr exprs HasLiterals HaveLiterals IsExpr
 
-    pub expr_is : (raw : RawTerm) → HasLiterals raw → IfFine (expr names vars s raw) (IsExpr p objects scope)
+    pub expr_is : (raw : RawTerm) → HasLiterals raw → IfParsed (expr names vars s raw) (IsExpr p objects scope)
     expr_is (form.Name it) has = bare_is it s
     expr_is (form.Variable it) has = tt
     expr_is (form.Number place n) has = has
@@ -141,9 +140,11 @@ module _ (names : Declarations) (p : Parts) (objects : List Typed) (agree : Agre
         parsed_after (Every (IsExpr p objects scope)) (IsExpr p objects scope) (all (exprs names vars s operands)) (arithmetic op place)
         (parsed_all (IsExpr p objects scope) (exprs names vars s operands) (exprs_are operands has)) (λ es are. arithmetic_is op place es are)
 
-    exprs_are : {n : _} (operands : Row_of-RawTerm n) → HaveLiterals operands → Every (λ v. IfFine v (IsExpr p objects scope)) (exprs names vars s operands)
+    exprs_are : {n : _} (operands : Row_of-RawTerm n) → HaveLiterals operands → Every (λ v. IfParsed v (IsExpr p objects scope)) (exprs names vars s operands)
     exprs_are end_of-RawTerm has = tt
     exprs_are (more_of-RawTerm operand operands) has = (expr_is operand has.0, exprs_are operands has.1)
 
-pub expressions_are_well_formed : ExpressionsAreWellFormed
+pub expressions_are_well_formed : (names : Declarations) (p : Parts) (objects : List Typed) → Agree names p objects
+    → (vars : Variables) (scope : List Typed) → AgreeInScope p vars scope
+    → (s : Setting) (raw : RawTerm) → HasLiterals raw → IfParsed (expr names vars s raw) (IsExpr p objects scope)
 expressions_are_well_formed names p objects agree vars scope in_scope s raw has = expr_is names p objects agree vars scope in_scope s raw has

@@ -1,5 +1,5 @@
 -- What is read as an initial state is one.
-use Rattle.std.proofs.Common.{◌≡◌, Bool, true, false, true≢false, ◌||◌, if◌then◌else◌, List, [], ◌∷◌, ◌++◌, map, drop, length, get_or, Option, Some, None, IsSomeAnd, refl, ap, sym, ◌∙◌, subst, inl, inr, pred}
+use Rattle.std.proofs.Common.{◌≡◌, Bool, true, false, true≢false, if◌then◌else◌, List, [], ◌∷◌, ◌++◌, map, drop, length, get_or, Option, Some, None, IsSomeAnd, refl, ap, sym, ◌∙◌, subst, inl, inr, pred}
 use Rattle.std.specs.Prelude.{is_some, ◌==◌}
 use Rattle.std.specs.Cmp.Lexicographic.{pointwise_decides, bytes_decides}
 use Rattle.std.specs.List.{list_any}
@@ -31,13 +31,12 @@ use Rattle.up_phrase.specs.Walks.{unless}
 use Rattle.up_check.specs.declared.lists.Initial.{Initial}
 use Rattle.up_check.specs.Initial.{object_faults, argument_faults, bracket_faults, atom_faults, arguments, is_at, number_at, object_at, value_faults, term_faults, member_faults, with_atom, with_number, with_object, with_member, stated, initial}
 use Rattle.up_check.specs.Lists as lists
-use Rattle.wellformed_phrases.specs.Agreement.{IfFine, Agree}
-use Rattle.wellformed_phrases.specs.Initial.{IsInitial, IsWrittenInit}
-use Rattle.wellformed_phrases.specs.Laws.{InitialStatesAreWellFormed}
+use Rattle.wellformed_phrases.specs.Agreement.{IfParsed, Agree}
+use Rattle.wellformed_phrases.specs.Initial.{IsInitial, IsLawfulInit}
 use Rattle.wellformed_phrases.proofs.Parses.{parsed_behind, holds, none_before, none_behind}
 use Rattle.wellformed_phrases.proofs.Tables.{at_some, function_is, predicate_is, under_is}
 use Rattle.wellformed_phrases.proofs.Terms.{same_length}
-use Rattle.wellformed_phrases.proofs.Members.{every_append}
+use Rattle.wellformed_phrases.proofs.Members.{every_append, either_true}
 
 -- ---- one more at the end
 
@@ -56,10 +55,6 @@ differ_more (y ∷ ys) x differ fresh =
 
 at_same : (it : RawGround) (name : Name) (args : List Name) → it.name.name ≡ name → arguments it.args ≡ args → is_at it name args ≡ true
 at_same it name args is so = rw ((bytes_decides it.name.name name).1 is, (pointwise_decides bytes_decides (arguments it.args) args).1 so) refl
-
-either_true : (a b : Bool) → b ≡ true → (a || b) ≡ true
-either_true true b e = refl
-either_true false b e = e
 
 stated_atom : (it : RawGround) (facts : List Fact) → Member (record { predicate = it.name.name; args = arguments it.args }) facts
     → list_any (λ (fact : Fact). is_at it fact.predicate fact.args) facts ≡ true
@@ -217,24 +212,25 @@ module _ (names : Declarations) (p : Parts) (agree : Agree names p p.objects) wh
             (λ m. true≢false (sym (stated_object it before.values m) ∙ new)));
       }
 
-  member_is : (before : Initial) (raw : RawInit) → IsWrittenInit raw → IsInitial p before → member_faults names before raw ≡ [] → IsInitial p (with_member before raw)
-  member_is before (member.Atom atom) written is none = with_atom_is before atom is (fact_is atom (predicate_of names atom.name.name) refl none)
-  member_is before (member.Absent atom) written is none = is
-  member_is before (member.Value place term (value.Number here n)) written is none =
-      with_number_is before term n is (number_fact term n written (number_term before place here term n (function_of names term.name.name) refl none))
-  member_is before (member.Value place term (value.Object o)) written is none =
+  member_is : (before : Initial) (raw : RawInit) → IsLawfulInit raw → IsInitial p before → member_faults names before raw ≡ [] → IsInitial p (with_member before raw)
+  member_is before (member.Atom atom) lawful is none = with_atom_is before atom is (fact_is atom (predicate_of names atom.name.name) refl none)
+  member_is before (member.Absent atom) lawful is none = is
+  member_is before (member.Value place term (value.Number here n)) lawful is none =
+      with_number_is before term n is (number_fact term n lawful (number_term before place here term n (function_of names term.name.name) refl none))
+  member_is before (member.Value place term (value.Object o)) lawful is none =
       with_object_is before term o.name is (record { typed = object_term before place term o (function_of names term.name.name) refl none })
 
-  stated_is : (before : Initial) (members : List RawInit) → Every IsWrittenInit members → IsInitial p before → IfFine (stated names before members) (IsInitial p)
-  stated_is before [] written is = is
-  stated_is before (raw ∷ others) written is =
+  stated_is : (before : Initial) (members : List RawInit) → Every IsLawfulInit members → IsInitial p before → IfParsed (stated names before members) (IsInitial p)
+  stated_is before [] lawful is = is
+  stated_is before (raw ∷ others) lawful is =
       parsed_behind (IsInitial p) (member_faults names before raw) (stated names (with_member before raw) others)
-      (λ none. stated_is (with_member before raw) others written.1 (member_is before raw written.0 is none))
+      (λ none. stated_is (with_member before raw) others lawful.1 (member_is before raw lawful.0 is none))
 
-  pub initial_is : (members : List RawInit) → Every IsWrittenInit members → IfFine (initial names members) (IsInitial p)
-  initial_is members written =
-      stated_is (record { atoms = []; numbers = []; values = [] }) members written
+  pub initial_is : (members : List RawInit) → Every IsLawfulInit members → IfParsed (initial names members) (IsInitial p)
+  initial_is members lawful =
+      stated_is (record { atoms = []; numbers = []; values = [] }) members lawful
       (record { atoms = tt; atoms_differ = tt; numbers = tt; numbers_differ = tt; values = tt; values_differ = tt })
 
-pub initial_states_are_well_formed : InitialStatesAreWellFormed
-initial_states_are_well_formed names p agree members written = initial_is names p agree members written
+pub initial_states_are_well_formed : (names : Declarations) (p : Parts) → Agree names p p.objects
+    → (members : List RawInit) → Every IsLawfulInit members → IfParsed (initial names members) (IsInitial p)
+initial_states_are_well_formed names p agree members lawful = initial_is names p agree members lawful

@@ -133,3 +133,7 @@ any_member name (x ∷ xs) e = by (same_name name x) refl e (any_member name xs)
     by : (b : Bool) → same_name name x ≡ b → (b || list_any (same_name name) xs) ≡ true → (list_any (same_name name) xs ≡ true → Member name xs) → Member name (x ∷ xs)
     by true is e rest = inl ((bytes_decides name x).0 is)
     by false is e rest = inr (rest e)
+
+pub either_true : (a b : Bool) → b ≡ true → (a || b) ≡ true
+either_true true b e = refl
+either_true false b e = e

@@ -38,7 +38,7 @@ use Rattle.up_phrase.specs.Nodes.{not, imply, exists, forall}
 use Rattle.up_phrase.specs.Scopes.{Variables, variable_type, entered_groups}
 use Rattle.up_phrase.specs.Terms.{of_type, object_giver, object_function, each_due, arguments, applied, term, terms}
 use Rattle.up_phrase.specs.Walks.{Checked, unless}
-use Rattle.wellformed_phrases.specs.Agreement.{IfFine}
+use Rattle.wellformed_phrases.specs.Agreement.{IfParsed}
 use Rattle.wellformed_phrases.proofs.Parses.{parsed_over, parsed_two, parsed_after, parsed_behind, parsed_all}
 use Rattle.wellformed_phrases.proofs.Exprs.{every_take, every_drop}
 
@@ -56,28 +56,28 @@ none_more (term_form.Var v) ts one two = two
 none_more (term_form.Object o) ts one two = two
 none_more (term_form.Fluent' f n us) ts one two = one
 
-anything : {A : Type 0} (v : Checked A) → IfFine v (λ a. ⊤)
+anything : {A : Type 0} (v : Checked A) → IfParsed v (λ a. ⊤)
 anything (parsed a) = tt
 anything (rejected f fs) = tt
 
 module _ (names : Declarations) (s : Setting) (narrow : IsNarrow s) where
   giver_never : (at_setting : Setting) → IsNarrow at_setting → (place : Place) (f : Ident) (due : Option Name) (args : List Name) (g : Gives)
-      → IfFine (object_giver names at_setting place f due args g) (λ types. ⊥)
+      → IfParsed (object_giver names at_setting place f due args g) (λ types. ⊥)
   giver_never at_setting is place f due args gives.Number = tt
   giver_never setting.Plain is place f due args (gives.Object of) = absurd is
   giver_never setting.Constraint is place f due args (gives.Object of) = tt
   giver_never setting.Metric is place f due args (gives.Object of) = tt
 
-  function_never : (place : Place) (f : Ident) (due : Option Name) (found : Option Signature) → IfFine (object_function names s place f due found) (λ types. ⊥)
+  function_never : (place : Place) (f : Ident) (due : Option Name) (found : Option Signature) → IfParsed (object_function names s place f due found) (λ types. ⊥)
   function_never place f due None = tt
   function_never place f due (Some signature) = giver_never s narrow place f due signature.args signature.gives
 
-  of_type_plain : (it : Ident) (t : Term) (due found : Option Name) → NoFluent t → IfFine (of_type names it t due found) NoFluent
+  of_type_plain : (it : Ident) (t : Term) (due found : Option Name) → NoFluent t → IfParsed (of_type names it t due found) NoFluent
   of_type_plain it t due None is = tt
   of_type_plain it t due (Some of) is = parsed_behind NoFluent (unless (fits names of due) (at it.place TypeMismatch it.name)) (parsed t) (λ none. is)
 
   module _ (vars : Variables) where
-    term_plain : (raw : RawTerm) (due : Option Name) → IfFine (term names vars s raw due) NoFluent
+    term_plain : (raw : RawTerm) (due : Option Name) → IfParsed (term names vars s raw due) NoFluent
     unfolding term
     term_plain (operand.Name it) due = of_type_plain it (term_form.Object it.name) due (type_of names it.name) tt
     term_plain (operand.Variable it) due = of_type_plain it (term_form.Var it.name) due (variable_type vars it.name) tt
@@ -89,7 +89,7 @@ module _ (names : Declarations) (s : Setting) (narrow : IsNarrow s) where
     term_plain (operand.Arithmetic' place op n args) due = tt
 
     abbrev PlainRead : (Option Name → Checked Term) → Type 0
-    PlainRead read = (due : Option Name) → IfFine (read due) NoFluent
+    PlainRead read = (due : Option Name) → IfParsed (read due) NoFluent
 
     row_plain : {n : _} (args : Row_of-RawTerm n) → Every PlainRead (terms names vars s args)
     unfolding terms
@@ -100,7 +100,7 @@ module _ (names : Declarations) (s : Setting) (narrow : IsNarrow s) where
     each_plain [] = tt
     each_plain (arg ∷ args) = (term_plain arg, each_plain args)
 
-    dues_plain : (types : List Name) (reads : List (Option Name → Checked Term)) → Every PlainRead reads → IfFine (all (each_due types reads)) HasNoFluent
+    dues_plain : (types : List Name) (reads : List (Option Name → Checked Term)) → Every PlainRead reads → IfParsed (all (each_due types reads)) HasNoFluent
     dues_plain [] reads are = tt
     dues_plain (due ∷ others) [] are = tt
     dues_plain (due ∷ others) (read ∷ reads) are =
@@ -108,7 +108,7 @@ module _ (names : Declarations) (s : Setting) (narrow : IsNarrow s) where
         (are.0 (Some due)) (dues_plain others reads are.1)
 
     applied_plain : (place : Place) (name : Name) (declared : Checked (List Name)) (reads : List (Option Name → Checked Term)) → Every PlainRead reads
-        → IfFine (applied place name declared reads) HasNoFluent
+        → IfParsed (applied place name declared reads) HasNoFluent
     applied_plain place name declared reads are =
         parsed_after (λ types. ⊤) HasNoFluent declared (λ types. arguments place name reads types) (anything declared) (λ types so.
         parsed_behind HasNoFluent (unless (length reads == length types) (at place Arity name)) (all (each_due types reads)) (λ none. dues_plain types reads are))
@@ -141,7 +141,7 @@ module _ (names : Declarations) (s : Setting) (narrow : IsNarrow s) where
         (halved_plain turns op (take n (a ∷ b ∷ es)) (every_take IsPlainExpr n (a ∷ b ∷ es) are))
         (halved_plain turns op (drop n (a ∷ b ∷ es)) (every_drop IsPlainExpr n (a ∷ b ∷ es) are))
 
-    arithmetic_plain : (op : Operator) (place : Place) (es : List Expr) → Every IsPlainExpr es → IfFine (arithmetic op place es) IsPlainExpr
+    arithmetic_plain : (op : Operator) (place : Place) (es : List Expr) → Every IsPlainExpr es → IfParsed (arithmetic op place es) IsPlainExpr
     arithmetic_plain op place es are = by (paired op es) (halved_plain (length es) op es are)
       where
         signed : (e : Expr) → IsPlainExpr e → (b : Bool) → IsPlainExpr (if b then negative e else e)
@@ -149,18 +149,18 @@ module _ (names : Declarations) (s : Setting) (narrow : IsNarrow s) where
         signed e is false = is
 
         by : (made : Option Expr) → IfSome made IsPlainExpr
-            → IfFine (option_map_or (λ e. parsed (if is_negation op (length es) then negative e else e)) made (rejected (bare place Expected) [])) IsPlainExpr
+            → IfParsed (option_map_or (λ e. parsed (if is_negation op (length es) then negative e else e)) made (rejected (bare place Expected) [])) IsPlainExpr
         by None is = tt
         by (Some e) is = signed e is (is_negation op (length es))
 
     call_plain : (place : Place) (f : Ident) (reads : List (Option Name → Checked Term)) → Every PlainRead reads
-        → IfFine (over (λ ts. Fluent f.name ts) (applied place f.name (numeric_function f (function_of names f.name)) reads)) IsPlainExpr
+        → IfParsed (over (λ ts. Fluent f.name ts) (applied place f.name (numeric_function f (function_of names f.name)) reads)) IsPlainExpr
     unfolding IsPlainExpr
     call_plain place f reads are =
         parsed_over HasNoFluent IsPlainExpr (λ ts. Fluent f.name ts) (applied place f.name (numeric_function f (function_of names f.name)) reads) (λ ts is. is)
         (applied_plain place f.name (numeric_function f (function_of names f.name)) reads are)
 
-    bare_plain : (it : Ident) (at_setting : Setting) → IfFine (bare_name names at_setting it) IsPlainExpr
+    bare_plain : (it : Ident) (at_setting : Setting) → IfParsed (bare_name names at_setting it) IsPlainExpr
     bare_plain it setting.Plain = tt
     bare_plain it setting.Constraint = tt
     bare_plain it setting.Metric = call_plain it.place it [] tt
@@ -168,7 +168,7 @@ module _ (names : Declarations) (s : Setting) (narrow : IsNarrow s) where
     mutual
       unfolding expr exprs IsPlainExpr
 
-      pub expr_plain : (raw : RawTerm) → IfFine (expr names vars s raw) IsPlainExpr
+      pub expr_plain : (raw : RawTerm) → IfParsed (expr names vars s raw) IsPlainExpr
       expr_plain (operand.Name it) = bare_plain it s
       expr_plain (operand.Variable it) = tt
       expr_plain (operand.Number place n) = tt
@@ -177,7 +177,7 @@ module _ (names : Declarations) (s : Setting) (narrow : IsNarrow s) where
           parsed_after (Every IsPlainExpr) IsPlainExpr (all (exprs names vars s operands)) (arithmetic op place)
           (parsed_all IsPlainExpr (exprs names vars s operands) (exprs_plain operands)) (λ es are. arithmetic_plain op place es are)
 
-      exprs_plain : {n : _} (operands : Row_of-RawTerm n) → Every (λ v. IfFine v IsPlainExpr) (exprs names vars s operands)
+      exprs_plain : {n : _} (operands : Row_of-RawTerm n) → Every (λ v. IfParsed v IsPlainExpr) (exprs names vars s operands)
       exprs_plain end_of-RawTerm = tt
       exprs_plain (more_of-RawTerm operand operands) = (expr_plain operand, exprs_plain operands)
 
@@ -217,26 +217,26 @@ forall_is q is = is
 
 module _ (names : Declarations) where
   atom_plain : (vars : Variables) (place : Place) (it : Ident) (args : List RawTerm)
-      → IfFine (over (λ ts. Atom it.name ts) (atom_args names vars setting.Constraint place it args)) IsPlain
+      → IfParsed (over (λ ts. Atom it.name ts) (atom_args names vars setting.Constraint place it args)) IsPlain
   unfolding IsPlain
   atom_plain vars place it args =
       parsed_over HasNoFluent IsPlain (λ ts. Atom it.name ts) (atom_args names vars setting.Constraint place it args) (λ ts is. is)
       (applied_plain names setting.Constraint tt vars place it.name (predicate it (predicate_of names it.name)) (map (term names vars setting.Constraint) args)
       (each_plain names setting.Constraint tt vars args))
 
-  equality_plain : (vars : Variables) (left right : RawTerm) → IfFine (equality names vars setting.Constraint left right) IsPlain
+  equality_plain : (vars : Variables) (left right : RawTerm) → IfParsed (equality names vars setting.Constraint left right) IsPlain
   unfolding IsPlain
   equality_plain vars left right =
       parsed_two NoFluent NoFluent IsPlain (λ t u. Equal t u) (term names vars setting.Constraint left None) (term names vars setting.Constraint right None)
       (λ t u one two. none_more t (u ∷ []) one two) (term_plain names setting.Constraint tt vars left None) (term_plain names setting.Constraint tt vars right None)
 
   related_plain : (vars : Variables) (place : Place) (r : raw_relation.Relation) (left right : RawTerm) (b : Bool)
-      → IfFine (if b then equality names vars setting.Constraint left right else compared names vars setting.Constraint place r left right) IsPlain
+      → IfParsed (if b then equality names vars setting.Constraint left right else compared names vars setting.Constraint place r left right) IsPlain
   related_plain vars place r left right true = equality_plain vars left right
   related_plain vars place r left right false = tt
 
-  quantified_plain : (vars : Variables) (groups : List RawGroup) (body : Variables → Checked Formula) → ((inner : Variables) → IfFine (body inner) IsPlain)
-      → IfFine (quantified names vars groups body) (λ (q : List Typed × Formula). IsPlain q.1)
+  quantified_plain : (vars : Variables) (groups : List RawGroup) (body : Variables → Checked Formula) → ((inner : Variables) → IfParsed (body inner) IsPlain)
+      → IfParsed (quantified names vars groups body) (λ (q : List Typed × Formula). IsPlain q.1)
   quantified_plain vars groups body each =
       parsed_after (λ inner. ⊤) (λ (q : List Typed × Formula). IsPlain q.1) (entered_groups names [] groups vars) (λ (inner : Variables). over (λ (f : Formula). (bound vars inner, f)) (body inner))
       (anything (entered_groups names [] groups vars))
@@ -245,7 +245,7 @@ module _ (names : Declarations) where
   mutual
     unfolding formula formulas
 
-    pub formula_plain : (raw : RawFormula) (vars : Variables) → IfFine (formula names vars setting.Constraint raw) IsPlain
+    pub formula_plain : (raw : RawFormula) (vars : Variables) → IfParsed (formula names vars setting.Constraint raw) IsPlain
     formula_plain (form.And' n members) vars =
         parsed_over (Every IsPlain) IsPlain And (all (formulas names vars setting.Constraint members)) and_is
         (parsed_all IsPlain (formulas names vars setting.Constraint members) (formulas_plain members vars))
@@ -266,6 +266,6 @@ module _ (names : Declarations) where
     formula_plain (form.Atom place it args) vars = atom_plain vars place it args
     formula_plain (form.Compare place r left right) vars = related_plain vars place r left right (is_equality names r left)
 
-    formulas_plain : {n : _} (members : Row_of-RawFormula n) (vars : Variables) → Every (λ v. IfFine v IsPlain) (formulas names vars setting.Constraint members)
+    formulas_plain : {n : _} (members : Row_of-RawFormula n) (vars : Variables) → Every (λ v. IfParsed v IsPlain) (formulas names vars setting.Constraint members)
     formulas_plain end_of-RawFormula vars = tt
     formulas_plain (more_of-RawFormula member members) vars = (formula_plain member vars, formulas_plain members vars)

@@ -27,8 +27,8 @@ use Rattle.up_phrase.specs.Scopes.{Variables, entered_groups, typed}
 use Rattle.up_phrase.specs.Walks.{Checked}
 use Rattle.up_effect.specs.Effects.{Around, with_variables, under, row, added, deleted, changed, undefined, simple, together, rows, each_rows}
 use Rattle.up_effect.specs.Nodes.{for_all, when}
-use Rattle.wellformed_phrases.specs.Agreement.{IfFine, Agree, AgreeInScope}
-use Rattle.wellformed_phrases.specs.Literal.{IsWrittenEffect, AreWrittenEffects}
+use Rattle.wellformed_phrases.specs.Agreement.{IfParsed, Agree, AgreeInScope}
+use Rattle.wellformed_phrases.specs.LawfulPhrases.{IsLawfulEffect, AreLawfulEffects}
 use Rattle.wellformed_phrases.proofs.Parses.{parsed_over, parsed_two, parsed_after}
 use Rattle.wellformed_phrases.proofs.Members.{every_as, every_append, any_member, member_front, member_back, names_in, there, lookup_append, named_there}
 use Rattle.wellformed_phrases.proofs.Entering.{AreAdded, OfMany, added_both, added_free, groups_are, in_vars, are_variables, agree_inside}
@@ -134,8 +134,8 @@ module _ (names : Declarations) (p : Parts) (objects : List Typed) (agree : Agre
       subst (λ vs. IsRow p objects (map typed params) (row_with a e vs)) (sym same)
       (record { vars = are_variables p params (map typed params) in_params [] s.added s.are s.known; when = alone_is (inner_scope s.added) a.whens s.whens; effect = is })
 
-  simple_is : (a : Around) (s : Surrounds a) (v : Checked Effect) → IfFine v (IsEffect p objects (inner_scope s.added))
-      → IfFine (simple a v) (Every (IsRow p objects (map typed params)))
+  simple_is : (a : Around) (s : Surrounds a) (v : Checked Effect) → IfParsed v (IsEffect p objects (inner_scope s.added))
+      → IfParsed (simple a v) (Every (IsRow p objects (map typed params)))
   simple_is a s v is =
       parsed_over (IsEffect p objects (inner_scope s.added)) (Every (IsRow p objects (map typed params))) (λ e. row a e ∷ []) v (λ e so. (row_is a s e so, tt)) is
 
@@ -197,34 +197,34 @@ module _ (names : Declarations) (p : Parts) (objects : List Typed) (agree : Agre
   abbrev pub AreRows : List Row → Type 0
   AreRows = Every (IsRow p objects (map typed params))
 
-  together_are : (vs : List (Checked (List Row))) → Every (λ v. IfFine v AreRows) vs → IfFine (together vs) AreRows
+  together_are : (vs : List (Checked (List Row))) → Every (λ v. IfParsed v AreRows) vs → IfParsed (together vs) AreRows
   together_are [] are = tt
   together_are (v ∷ vs) are =
       parsed_two AreRows AreRows AreRows (λ xs ys. xs ++ ys) v (together vs) (λ xs ys one two. every_append (IsRow p objects (map typed params)) xs ys one two) are.0 (together_are vs are.1)
 
   mutual
-    unfolding rows each_rows IsWrittenEffect AreWrittenEffects
+    unfolding rows each_rows IsLawfulEffect AreLawfulEffects
 
-    pub rows_are : (raw : RawEffect) → IsWrittenEffect raw → (a : Around) → Surrounds a → IfFine (rows names a raw) AreRows
-    rows_are (form.And' n members) written a s = together_are (each_rows names a members) (each_are members written a s)
-    rows_are (for_all groups body) written a s =
+    pub rows_are : (raw : RawEffect) → IsLawfulEffect raw → (a : Around) → Surrounds a → IfParsed (rows names a raw) AreRows
+    rows_are (form.And' n members) lawful a s = together_are (each_rows names a members) (each_are members lawful a s)
+    rows_are (for_all groups body) lawful a s =
         parsed_after (OfMany a.barred names p objects agree a.variables) AreRows (entered_groups names a.barred groups a.variables)
-        (λ (vars : Variables). rows names (with_variables a vars) body) (groups_are a.barred names p objects agree groups a.variables written.0)
-        (λ inner many. rows_are body written.1 (with_variables a inner) (entered_is a s inner many))
-    rows_are (when condition body) written a s =
+        (λ (vars : Variables). rows names (with_variables a vars) body) (groups_are a.barred names p objects agree groups a.variables lawful.0)
+        (λ inner many. rows_are body lawful.1 (with_variables a inner) (entered_is a s inner many))
+    rows_are (when condition body) lawful a s =
         parsed_after (IsFormula p objects (inner_scope s.added)) AreRows (formula names a.variables Plain condition) (λ (f : Formula). rows names (under a f) body)
-        (formula_is names p objects agree Plain condition written.0 a.variables (inner_scope s.added) (agree_at a s))
-        (λ f is. rows_are body written.1 (under a f) (under_is a s f is))
-    rows_are (form.Add it) written a s =
+        (formula_is names p objects agree Plain condition lawful.0 a.variables (inner_scope s.added) (agree_at a s))
+        (λ f is. rows_are body lawful.1 (under a f) (under_is a s f is))
+    rows_are (form.Add it) lawful a s =
         simple_is a s (added names a.variables it) (added_is names p objects agree a.variables (inner_scope s.added) (agree_at a s) it)
-    rows_are (form.Delete it) written a s =
+    rows_are (form.Delete it) lawful a s =
         simple_is a s (deleted names a.variables it) (deleted_is names p objects agree a.variables (inner_scope s.added) (agree_at a s) it)
-    rows_are (form.Change c it value) written a s =
-        simple_is a s (changed names a.variables c it value) (changed_is names p objects agree a.variables (inner_scope s.added) (agree_at a s) c it value written)
-    rows_are (form.Undefine it place) written a s =
+    rows_are (form.Change c it value) lawful a s =
+        simple_is a s (changed names a.variables c it value) (changed_is names p objects agree a.variables (inner_scope s.added) (agree_at a s) c it value lawful)
+    rows_are (form.Undefine it place) lawful a s =
         simple_is a s (undefined names a.variables it place (function_of names it.name.name))
         (undefined_is names p objects agree a.variables (inner_scope s.added) (agree_at a s) it place (function_of names it.name.name) refl)
 
-    each_are : {n : _} (members : Row_of-RawEffect n) → AreWrittenEffects members → (a : Around) → Surrounds a → Every (λ v. IfFine v AreRows) (each_rows names a members)
-    each_are end_of-RawEffect written a s = tt
-    each_are (more_of-RawEffect member members) written a s = (rows_are member written.0 a s, each_are members written.1 a s)
+    each_are : {n : _} (members : Row_of-RawEffect n) → AreLawfulEffects members → (a : Around) → Surrounds a → Every (λ v. IfParsed v AreRows) (each_rows names a members)
+    each_are end_of-RawEffect lawful a s = tt
+    each_are (more_of-RawEffect member members) lawful a s = (rows_are member lawful.0 a s, each_are members lawful.1 a s)

@@ -16,14 +16,14 @@ use Rattle.up_tree.specs.WellFormed.{AreDeclared, top_type}
 use Rattle.up_phrase.specs.declared.reason.Reason.TheVariants.{TypeCycle}
 use Rattle.up_phrase.specs.Named.{at, object, is_object}
 use Rattle.up_phrase.specs.Scopes.{type_named, typed}
-use Rattle.up_declare.specs.Types.{Types, parent_in, with_type, with_names, with_groups, with_parents, leaves, reaches, reason_at, fault_at, name_faults, type_faults}
-use Rattle.wellformed_phrases.specs.Literal.{HaveNames}
+use Rattle.up_declare.specs.Types.{Types, parent_in, with_type, with_names, with_groups, with_parents, leaves, reaches, reason_at, fault_at, name_faults, type_faults, types}
+use Rattle.wellformed_phrases.specs.LawfulPhrases.{HaveNames}
 use Rattle.wellformed_phrases.specs.SoundTypes.{AreSoundTypes, IsNamedType, HaveNamedTypes}
-use Rattle.wellformed_phrases.specs.Laws.{TypesAreSound}
 use Rattle.wellformed_phrases.proofs.Parses.{parsed_behind, none_before, none_behind}
 use Rattle.wellformed_phrases.proofs.Tables.{type_found}
-use Rattle.wellformed_phrases.proofs.Members.{every_as, every_append, names_in, there, lookup_append, found_is, found_named, member_map}
+use Rattle.wellformed_phrases.proofs.Members.{every_as, every_append, names_in, there, lookup_append, found_is, found_named, member_map, either_true}
 use Rattle.wellformed_phrases.proofs.Facts.{differ_more}
+use Rattle.wellformed_phrases.specs.Agreement.{IfParsed}
 
 -- ---- one more type
 
@@ -255,10 +255,6 @@ every_self : {X : Type 0} (P : X → Type 0) (xs : List X) → ((x : X) → Memb
 every_self P [] h = tt
 every_self P (x ∷ xs) h = (h x (inl refl), every_self P xs (λ y m. h y (inr m)))
 
-either_true : (a b : Bool) → b ≡ true → (a || b) ≡ true
-either_true true b e = refl
-either_true false b e = e
-
 entry_known : (ts : Types) (e : Name × Name) → Member e ts → IsKnown ts e.0
 entry_known ts e m = either_true (is_object e.0) (is_some (parent_in ts e.0)) (there e.0 ts (member_map (λ (x : Name × Name). x.0) e ts m))
 
@@ -282,7 +278,7 @@ sound_grown listed final new g known reach =
       chains = subst (λ ts. Every (λ e. Member top_type (chain (map typed ts) (length ts) e.0)) ts) (sym g.is) chains;
     }
 
-pub types_are_sound : TypesAreSound
+pub types_are_sound : (groups : List RawGroup) → HaveNames groups → HaveNamedTypes groups → IfParsed (types groups) AreSoundTypes
 types_are_sound groups named types_named =
     parsed_behind AreSoundTypes (type_faults (with_groups groups []) [] groups) (parsed (with_parents groups (with_groups groups []))) (λ none.
     sound_grown (with_groups groups []) (with_parents groups (with_groups groups []))

@@ -27,8 +27,7 @@ use Rattle.up_phrase.specs.Scopes.{Variables, variable_type}
 use Rattle.up_phrase.specs.Terms.{of_type, unadmitted, object_giver, object_function, each_due, arguments, applied, term, terms}
 use Rattle.up_phrase.specs.Walks.{Checked, unless}
 use Rattle.up_check.specs.Lists.{function}
-use Rattle.wellformed_phrases.specs.Agreement.{IfFine, Agree, AgreeInScope, IsTermDue}
-use Rattle.wellformed_phrases.specs.Laws.{TermsAreWellFormed}
+use Rattle.wellformed_phrases.specs.Agreement.{IfParsed, Agree, AgreeInScope, IsTermDue}
 use Rattle.wellformed_phrases.proofs.Parses.{parsed_as, parsed_over, parsed_two, parsed_after, parsed_behind, holds, none_behind}
 use Rattle.wellformed_phrases.proofs.Tables.{under_is, function_is, at_some, is_there}
 
@@ -45,19 +44,19 @@ module _ (names : Declarations) (p : Parts) (objects : List Typed) (agree : Agre
 
   of_type_is : (it : Ident) (t : Term) (due found : Option Name) → ((of : Name) → found ≡ Some of → IsTerm p objects scope t)
       → ((of : Name) → found ≡ Some of → term_type p scope t ≡ Some of) → ((of : Name) → found ≡ Some of → IsType p of)
-      → IfFine (of_type names it t due found) (IsTermDue p objects scope due)
+      → IfParsed (of_type names it t due found) (IsTermDue p objects scope due)
   of_type_is it t due None is typed known = tt
   of_type_is it t due (Some of) is typed known =
       parsed_behind (IsTermDue p objects scope due) (unless (fits names of due) (at it.place TypeMismatch it.name)) (parsed t)
       (λ none. due_is t of due (is of refl) (typed of refl) (known of refl) (holds (fits names of due) _ none))
 
-  name_is : (it : Ident) (due : Option Name) → IfFine (of_type names it (Object it.name) due (type_of names it.name)) (IsTermDue p objects scope due)
+  name_is : (it : Ident) (due : Option Name) → IfParsed (of_type names it (Object it.name) due (type_of names it.name)) (IsTermDue p objects scope due)
   unfolding IsTerm
   name_is it due =
       of_type_is it (Object it.name) due (type_of names it.name) (λ of is. agree.admitted it.name of is) (λ of is. agree.object_types it.name of is)
       (λ of is. agree.known_types it.name of is)
 
-  variable_is : (it : Ident) (due : Option Name) → IfFine (of_type names it (Var it.name) due (variable_type vars it.name)) (IsTermDue p objects scope due)
+  variable_is : (it : Ident) (due : Option Name) → IfParsed (of_type names it (Var it.name) due (variable_type vars it.name)) (IsTermDue p objects scope due)
   unfolding IsTerm
   variable_is it due =
       of_type_is it (Var it.name) due (variable_type vars it.name)
@@ -67,10 +66,10 @@ module _ (names : Declarations) (p : Parts) (objects : List Typed) (agree : Agre
   -- ---- arguments
 
   abbrev pub Reads : (Option Name → Checked Term) → Type 0
-  Reads read = (due : Option Name) → IfFine (read due) (IsTermDue p objects scope due)
+  Reads read = (due : Option Name) → IfParsed (read due) (IsTermDue p objects scope due)
 
   dues_are : (types : List Name) (reads : List (Option Name → Checked Term)) → length reads ≡ length types → Every Reads reads
-      → IfFine (all (each_due types reads)) (λ ts. TermsFit p objects scope ts types)
+      → IfParsed (all (each_due types reads)) (λ ts. TermsFit p objects scope ts types)
   dues_are [] [] len are = tt
   dues_are [] (read ∷ reads) len are = cc
   dues_are (due ∷ others) [] len are = cc
@@ -81,8 +80,8 @@ module _ (names : Declarations) (p : Parts) (objects : List Typed) (agree : Agre
 
   -- the arguments of what is declared, where something holds of its types
   pub applied_are : (P : List Name → Type 0) (place : Place) (name : Name) (declared : Checked (List Name)) (reads : List (Option Name → Checked Term))
-      → IfFine declared P → Every Reads reads
-      → IfFine (applied place name declared reads) (λ ts. (types : List Name) × P types × TermsFit p objects scope ts types)
+      → IfParsed declared P → Every Reads reads
+      → IfParsed (applied place name declared reads) (λ ts. (types : List Name) × P types × TermsFit p objects scope ts types)
   applied_are P place name declared reads is are =
       parsed_after P (λ ts. (types : List Name) × P types × TermsFit p objects scope ts types) declared (λ types. arguments place name reads types) is (λ types so.
       parsed_behind (λ ts. (types : List Name) × P types × TermsFit p objects scope ts types) (unless (length reads == length types) (at place Arity name)) (all (each_due types reads)) (λ none.
@@ -104,7 +103,7 @@ module _ (names : Declarations) (p : Parts) (objects : List Typed) (agree : Agre
       × (gives_object signature.gives ≡ Some of) × IsType p of × (fits names of due ≡ true)
 
   giver_is : (place : Place) (f : Ident) (due : Option Name) (signature : Signature) (g : Gives) → function_of names f.name ≡ Some signature
-      → signature.gives ≡ g → IfFine (object_giver names s place f due signature.args g) (GivesDue f.name due)
+      → signature.gives ≡ g → IfParsed (object_giver names s place f due signature.args g) (GivesDue f.name due)
   giver_is place f due signature gives.Number is so = tt
   giver_is place f due signature (gives.Object of) is so =
       parsed_behind (GivesDue f.name due) (unadmitted s place f.name ++ unless (fits names of due) (at place TypeMismatch f.name)) (parsed signature.args) (λ none. (
@@ -118,7 +117,7 @@ module _ (names : Declarations) (p : Parts) (objects : List Typed) (agree : Agre
       ))
 
   object_function_is : (place : Place) (f : Ident) (due : Option Name) (found : Option Signature) → function_of names f.name ≡ found
-      → IfFine (object_function names s place f due found) (GivesDue f.name due)
+      → IfParsed (object_function names s place f due found) (GivesDue f.name due)
   object_function_is place f due None is = tt
   object_function_is place f due (Some signature) is = giver_is place f due signature signature.gives is refl
 
@@ -136,7 +135,7 @@ module _ (names : Declarations) (p : Parts) (objects : List Typed) (agree : Agre
   mutual
     unfolding term terms
 
-    pub term_is : (raw : RawTerm) (due : Option Name) → IfFine (term names vars s raw due) (IsTermDue p objects scope due)
+    pub term_is : (raw : RawTerm) (due : Option Name) → IfParsed (term names vars s raw due) (IsTermDue p objects scope due)
     term_is (form.Name it) due = name_is it due
     term_is (form.Variable it) due = variable_is it due
     term_is (form.Number place n) due = tt
@@ -151,5 +150,7 @@ module _ (names : Declarations) (p : Parts) (objects : List Typed) (agree : Agre
     terms_are end_of-RawTerm = tt
     terms_are (more_of-RawTerm arg args) = (term_is arg, terms_are args)
 
-pub terms_are_well_formed : TermsAreWellFormed
+pub terms_are_well_formed : (names : Declarations) (p : Parts) (objects : List Typed) → Agree names p objects
+    → (vars : Variables) (scope : List Typed) → AgreeInScope p vars scope
+    → (s : Setting) (raw : RawTerm) (due : Option Name) → IfParsed (term names vars s raw due) (IsTermDue p objects scope due)
 terms_are_well_formed names p objects agree vars scope in_scope s raw due = term_is names p objects agree vars scope in_scope s raw due

@@ -28,11 +28,11 @@ some_as : {X : Type 0} (o : Option X) (P Q : X → Type 0) → ((x : X) → P x 
 some_as None P Q h is = is
 some_as (Some x) P Q h is = h x is
 
-every_front : {X : Type 0} (P : X → Type 0) (xs ys : List X) → Every P (xs ++ ys) → Every P xs
+pub every_front : {X : Type 0} (P : X → Type 0) (xs ys : List X) → Every P (xs ++ ys) → Every P xs
 every_front P [] ys all = tt
 every_front P (x ∷ xs) ys all = (all.0, every_front P xs ys all.1)
 
-every_back : {X : Type 0} (P : X → Type 0) (xs ys : List X) → Every P (xs ++ ys) → Every P ys
+pub every_back : {X : Type 0} (P : X → Type 0) (xs ys : List X) → Every P (xs ++ ys) → Every P ys
 every_back P [] ys all = all
 every_back P (x ∷ xs) ys all = every_back P xs ys all.1
 

@@ -14,9 +14,9 @@ use Rattle.up_phrase.specs.Scopes.{Variables, variable_type, typed}
 use Rattle.up_check.specs.Lists.{predicate, function}
 
 -- what is read, if anything is, is so
-abbrev pub IfFine : {F A : Type 0} → Parse F A → (A → Type 0) → Type 0
-IfFine (parsed a) P = P a
-IfFine (rejected fault others) P = ⊤
+abbrev pub IfParsed : {F A : Type 0} → Parse F A → (A → Type 0) → Type 0
+IfParsed (parsed a) P = P a
+IfParsed (rejected fault others) P = ⊤
 
 -- Declarations are those of the problem, of whose objects these may be named; every type stands below `object`.
 pub record Agree (names : Declarations) (p : Parts) (objects : List Typed) : Type 0 where

@@ -1,4 +1,4 @@
--- A well formed initial state, and what is written of one.
+-- A well-formed initial state, and raw members of one whose numbers are literals.
 use Rattle.std.specs.Prelude.{⊤, ◌∷◌, map}
 use Rattle.up_text.specs.Lists.{Every, Differ}
 use Rattle.pddl_parse.specs.declared.raw.RawInit.{RawInit}
@@ -18,12 +18,12 @@ pub record IsInitial (p : Parts) (it : Initial) : Type 0 where
   pub values : Every (IsValueFact p) it.values
   pub values_differ : Differ (map (λ v. v.function ∷ v.args) it.values)
 
-abbrev pub IsWrittenValue : RawValue → Type 0
-IsWrittenValue (value.Number place n) = IsLiteral n
-IsWrittenValue (value.Object it) = ⊤
+abbrev pub IsLawfulValue : RawValue → Type 0
+IsLawfulValue (value.Number place n) = IsLiteral n
+IsLawfulValue (value.Object it) = ⊤
 
 -- a number that is stated is a literal
-abbrev pub IsWrittenInit : RawInit → Type 0
-IsWrittenInit (member.Atom atom) = ⊤
-IsWrittenInit (member.Absent atom) = ⊤
-IsWrittenInit (member.Value place term v) = IsWrittenValue v
+abbrev pub IsLawfulInit : RawInit → Type 0
+IsLawfulInit (member.Atom atom) = ⊤
+IsLawfulInit (member.Absent atom) = ⊤
+IsLawfulInit (member.Value place term v) = IsLawfulValue v

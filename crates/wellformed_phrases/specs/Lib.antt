@@ -1,7 +1,6 @@
 pub mod Agreement
-pub mod Literal
+pub mod LawfulPhrases
 pub mod Initial
 pub mod Sound
 pub mod SoundTypes
-pub mod Written
-pub mod Laws
+pub mod LawfulForms

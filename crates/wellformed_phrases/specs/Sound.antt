@@ -35,7 +35,7 @@ AreNamed symbols = Every (λ (symbol : RawSymbol). IsName symbol.name.name) symb
 abbrev pub AreNamedFunctions : List RawFunctions → Type 0
 AreNamedFunctions groups = Every (λ (group : RawFunctions). AreNamed group.functions) groups
 
--- the problem has these declarations, and more objects behind those of them
+-- the problem has these declarations, and more objects after those of them
 pub record HasDeclared (p : Parts) (names : Declarations) (more : List (Name × Name)) : Type 0 where
   pub types : p.types ≡ map typed names.types
   pub objects : p.objects ≡ map typed (names.objects ++ more)

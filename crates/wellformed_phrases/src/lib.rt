@@ -1,4 +1,4 @@
-//! Laws of what is read: it is well formed.
+//! Laws of what is read: it is well-formed.
 #![tactic(auto)]
 
 mod laws;

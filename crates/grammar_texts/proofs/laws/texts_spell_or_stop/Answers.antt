@@ -6,7 +6,7 @@ pub returns-clause-one : goal.returns-clause-one
 returns-clause-one c = one_fault
 
 pub returns-clause-faultless : goal.returns-clause-faultless
-returns-clause-faultless c = spelled_is_faultless
+returns-clause-faultless c = λ domain problem. spelled_is_faultless domain problem c.args._p.now
 
 pub returns-clause-settled : goal.returns-clause-settled
 returns-clause-settled c = all_spell_or_stop

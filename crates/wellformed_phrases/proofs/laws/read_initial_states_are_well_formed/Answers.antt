@@ -2,4 +2,4 @@ use Rattle.wellformed_phrases.proofs.Facts.{initial_states_are_well_formed}
 use Rattle.wellformed_phrases.proofs.laws.read_initial_states_are_well_formed.Goals as goal
 
 pub returns : goal.returns
-returns c = initial_states_are_well_formed
+returns c = λ names. initial_states_are_well_formed names c.args._p.now

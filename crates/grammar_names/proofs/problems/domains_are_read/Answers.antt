@@ -1,8 +1,0 @@
-use Rattle.grammar_names.proofs.ProblemLaws.{domains, faultless_domains}
-use Rattle.grammar_names.proofs.problems.domains_are_read.Goals as goal
-
-pub returns-clause-read : goal.returns-clause-read
-returns-clause-read c = domains
-
-pub returns-clause-faultless : goal.returns-clause-faultless
-returns-clause-faultless c = faultless_domains

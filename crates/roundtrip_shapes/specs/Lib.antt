@@ -1,0 +1,4 @@
+pub mod Raw
+pub mod RawEffects
+pub mod RawFiles
+pub mod Formed

@@ -1,0 +1,9 @@
+pub mod Acting
+pub mod Declared
+pub mod Domains
+pub mod Initial
+pub mod Names
+pub mod Problems
+pub mod Reading
+pub mod Rules
+pub mod Symbols

@@ -1,0 +1,14 @@
+pub mod Numbers
+pub mod Leaves
+pub mod Parses
+pub mod Typed
+pub mod Terms
+pub mod Conditions
+pub mod Effects
+pub mod Actions
+pub mod Symbols
+pub mod Starts
+pub mod Constraints
+pub mod Sections
+pub mod Forms
+pub mod Texts

@@ -1,4 +1,0 @@
-pub mod Initial
-pub mod Problems
-pub mod Reading
-pub mod Rules
