@@ -1,17 +1,20 @@
 ghost use Rattle.std.specs.Prelude.{◌≡◌, IfOk};
 ghost use Rattle.pddl_write.specs.Files.{pieces_of_domain, pieces_of_problem, domain_text, problem_text, declares_type};
 ghost use Rattle.pddl_write.specs.Walks.{domain_left, problem_left};
-ghost use Rattle.pddl_write.specs.Pieces.{domain_bytes, problem_bytes};
 
 use crate::domain::{DomainPlace, DomainSteps};
-use crate::domain_piecewise::DomainPieces;
 use crate::problem::{ProblemPlace, ProblemSteps};
-use crate::problem_piecewise::ProblemPieces;
 use std::alloc::Global;
 use up_kind::kind_of;
-use up_line::whole_text;
+use up_line::{Piecewise, whole_text};
 use up_text::Memory;
 use up_tree::{Parts, Problem};
+
+/// A domain that is written piece by piece.
+pub type DomainPieces<'p> = Piecewise<DomainSteps<'p>>;
+
+/// A problem that is written piece by piece.
+pub type ProblemPieces<'p> = Piecewise<ProblemSteps<'p>>;
 
 fn domain_steps<'p>(alloc: Global, p: &'p Problem) -> Result<DomainSteps<'p>, Memory>
     ensures { IfOk result (λ steps. domain_left steps ≡ pieces_of_domain p.now) }
@@ -51,9 +54,9 @@ fn problem_steps(p: &Problem) -> ProblemSteps<'_>
 /// Errors: `Memory` where that room, or the tables that tell the domain's requirements, can't be had.
 #[tactic(auto, unfolding(crate::specs::Files::domain_text))]
 pub fn domain_pieces<'p>(alloc: Global, p: &'p Problem) -> Result<DomainPieces<'p>, Memory>
-    ensures { IfOk result (λ d. domain_bytes d ≡ domain_text p.now) }
+    ensures { IfOk result (λ d. d.rest ≡ domain_text p.now) }
 {
-    DomainPieces::new(alloc, domain_steps(alloc, p)?)
+    Piecewise::new(alloc, domain_steps(alloc, p)?)
 }
 
 /// The pieces of the problem as PDDL text, as those of `domain_pieces`.
@@ -61,9 +64,9 @@ pub fn domain_pieces<'p>(alloc: Global, p: &'p Problem) -> Result<DomainPieces<'
 /// Errors: `Memory` where the room for the longest piece can't be had.
 #[tactic(auto, unfolding(crate::specs::Files::problem_text))]
 pub fn problem_pieces<'p>(alloc: Global, p: &'p Problem) -> Result<ProblemPieces<'p>, Memory>
-    ensures { IfOk result (λ d. problem_bytes d ≡ problem_text p.now) }
+    ensures { IfOk result (λ d. d.rest ≡ problem_text p.now) }
 {
-    ProblemPieces::new(alloc, problem_steps(p))
+    Piecewise::new(alloc, problem_steps(p))
 }
 
 /// The problem's domain as PDDL text: one line for each action.

@@ -1,6 +1,6 @@
 -- One more step of a plan is converted.
-use Rattle.std.proofs.Common.{◌≡◌, ℕ, zero, suc, ◌+◌, ◌<◌, ◌≤◌, cond, Bool, true, false, List, [], ◌∷◌, ◌++◌, length, drop, get_or, Option, Some, None, Result, Ok, Err, option_map, option_and_then, nat_eq, refl, ap, sym, ◌∙◌, subst, append_assoc, append-nil, arith}
-use Rattle.std.specs.Prelude.{option_to_list, IfErr, IsErrAnd}
+use Rattle.std.proofs.Common.{◌≡◌, ℕ, zero, suc, ◌+◌, ◌<◌, ◌≤◌, cond, Bool, true, false, List, [], ◌∷◌, ◌++◌, length, drop, get_or, Option, Some, None, option_map, option_and_then, nat_eq, refl, ap, sym, ◌∙◌, subst, append_assoc, append-nil, arith}
+use Rattle.std.specs.Prelude.{option_to_list}
 use Rattle.std.specs.Option.{option_or}
 use Rattle.std.proofs.lemmas.List.{drop_more}
 use Rattle.up_text.specs.declared.name.Name.{Name}
@@ -12,7 +12,7 @@ use Rattle.up_compiler.specs.declared.back.Entry.{Entry}
 use Rattle.up_compiler.specs.declared.back.Item.{Item}
 use Rattle.up_compiler.specs.Back.{item_object, items_objects, by_entry, by_target, entry_named, and_kept, back_steps, back}
 use Rattle.up_map.specs.declared.back_error.BackError.{BackError}
-use Rattle.up_map.specs.declared.back_error.BackError.TheVariants.{Memory, Arity}
+use Rattle.up_map.specs.declared.back_error.BackError.TheVariants.{Arity}
 use Rattle.up_map.specs.Unfit.{converted_by, unfit_by, first_unfit}
 
 -- what is left of a list from an element on
@@ -164,6 +164,7 @@ at_more m all made later i number step found kept f is added a = record {
   counted = ap (λ (n : ℕ). n + 1) a.counted;
 }
 
+-- the fault at which the loop ends is the first one, and then the plan isn't converted
 pub at_fault : (m : List Entry) (all made : List Step) (i number : ℕ) (step : Step) (found : Option Entry) (fault : BackError) → Found m all i step found
     → unfit_by (number + 1) step found ≡ Some fault → IsAt m all made i number
     → (first_unfit m 1 all ≡ Some fault) × (back_steps m all ≡ None)
@@ -171,22 +172,6 @@ at_fault m all made i number step found fault f is a =
     let here : unfit_by (i + 1) step found ≡ Some fault = ap (λ (n : ℕ). unfit_by (n + 1) step found) (sym a.counted) ∙ is in
     let u : UnfitAt m all i step fault = record { within = f.within; at = f.is; unfit = ap (unfit_by (i + 1) step) (sym f.has) ∙ here } in
     (unfit_first m all i step fault u a.fit, unfit_none m all made i step fault u a.kept)
-
--- the fault at which the loop ends is the first one
-pub fault_first : {T : Type 0} (m : List Entry) (all made : List Step) (i number : ℕ) (step : Step) (found : Option Entry) (result : Result T BackError) (fault : BackError)
-    → Found m all i step found → IsErrAnd result (λ given. given ≡ fault) → (¬ (fault ≡ Memory) → unfit_by (number + 1) step found ≡ Some fault)
-    → IsAt m all made i number → IfErr result (λ given. ¬ (given ≡ Memory) → first_unfit m 1 all ≡ Some given)
-fault_first m all made i number step found (Ok value) fault f same is a = absurd same
-fault_first m all made i number step found (Err given) fault f same is a =
-    subst (λ (y : BackError). ¬ (y ≡ Memory) → first_unfit m 1 all ≡ Some y) (sym same) (λ other. (at_fault m all made i number step found fault f (is other) a).0)
-
--- and then the plan isn't converted
-pub fault_none : {T : Type 0} (m : List Entry) (all made : List Step) (i number : ℕ) (step : Step) (found : Option Entry) (result : Result T BackError) (fault : BackError)
-    → Found m all i step found → IsErrAnd result (λ given. given ≡ fault) → (¬ (fault ≡ Memory) → unfit_by (number + 1) step found ≡ Some fault)
-    → IsAt m all made i number → IfErr result (λ given. ¬ (given ≡ Memory) → back_steps m all ≡ None)
-fault_none m all made i number step found (Ok value) fault f same is a = absurd same
-fault_none m all made i number step found (Err given) fault f same is a =
-    subst (λ (y : BackError). ¬ (y ≡ Memory) → back_steps m all ≡ None) (sym same) (λ other. (at_fault m all made i number step found fault f (is other) a).1)
 
 pub at_end : (m : List Entry) (all made : List Step) (i number : ℕ) → length all ≤ i → IsAt m all made i number
     → (back_steps m all ≡ Some made) × (first_unfit m 1 all ≡ None)

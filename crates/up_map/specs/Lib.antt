@@ -1,6 +1,5 @@
 pub mod Entries
 pub mod Named
-pub mod Pieces
 pub mod Reading
 pub mod Rests
 pub mod Spells

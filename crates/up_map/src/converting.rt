@@ -139,9 +139,24 @@ fn back_steps(alloc: Global, entries: &[Entry], steps: &[Step]) -> Result<List<S
     let mut number = 0_usize;
     for step in steps {
         number += 1;
-        let kept = converted(alloc, &table, number, step)?;
-        add_kept(kept, &mut made)?;
+        let kept = match converted(alloc, &table, number, step) {
+            Ok(kept) => kept,
+            Err(fault) => {
+                drop(table);
+                drop(made);
+                return Err(fault);
+            }
+        };
+        match add_kept(kept, &mut made) {
+            Ok(()) => {}
+            Err(Memory) => {
+                drop(table);
+                drop(made);
+                return Err(BackError::Memory);
+            }
+        }
     }
+    drop(table);
     Ok(made)
 }
 

@@ -94,15 +94,35 @@ fn read_entries(alloc: Global, text: &[u8]) -> Result<List<Entry>, MapError>
         let Cut { front, behind } = cut_at(b'\n', rest);
         let behind = match behind {
             Some(behind) => behind,
-            None => return Err(MapError::Bad { line: number }),
+            None => {
+                drop(actions);
+                drop(entries);
+                return Err(MapError::Bad { line: number });
+            }
         };
         if front == b"end".as_slice() {
+            drop(actions);
             return ended(number + 1, entries, behind);
         }
-        let entry = read_new_entry(alloc, number, front, &mut actions)?;
-        entries.push(entry)?;
-        rest = behind;
-        number += 1;
+        let entry = match read_new_entry(alloc, number, front, &mut actions) {
+            Ok(entry) => entry,
+            Err(fault) => {
+                drop(actions);
+                drop(entries);
+                return Err(fault);
+            }
+        };
+        match entries.push(entry) {
+            Ok(()) => {
+                rest = behind;
+                number += 1;
+            }
+            Err(Memory) => {
+                drop(actions);
+                drop(entries);
+                return Err(MapError::Memory);
+            }
+        }
     }
 }
 

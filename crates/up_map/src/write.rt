@@ -5,16 +5,17 @@ ghost use Rattle.up_line.specs.Sheet.{after};
 ghost use Rattle.up_line.specs.Steps.{longest};
 ghost use Rattle.up_map.specs.Texts.{entry_lines, pieces_of_map, map_text};
 ghost use Rattle.up_map.specs.Walk.{map_left};
-ghost use Rattle.up_map.specs.Pieces.{map_bytes};
 ghost use Rattle.up_map.specs.Spells.{IsEntry, IsMap, MapText};
 
 use crate::map::Map;
-use crate::piecewise::MapPieces;
 use crate::steps::{MapPlace, MapSteps, put_chain, put_entry};
 use std::alloc::Global;
 use up_compiler::Entry;
-use up_line::Line;
+use up_line::{Line, Piecewise};
 use up_text::Memory;
+
+/// A map that is written piece by piece.
+pub type MapPieces<'p> = Piecewise<MapSteps<'p>>;
 
 #[tactic(auto, unfolding(crate::specs::Texts::pieces_of_map))]
 fn map_steps(map: &Map) -> MapSteps<'_>
@@ -69,11 +70,11 @@ fn longest_line(alloc: Global, map: &Map) -> Result<usize, Memory>
 /// Errors: `Memory` where that room can't be had.
 #[tactic(auto, unfolding(crate::specs::Texts::map_text))]
 pub fn map_pieces<'p>(alloc: Global, map: &'p Map) -> Result<MapPieces<'p>, Memory>
-    ensures text { IfOk result (λ m. map_bytes m ≡ map_text map.now) }
-    ensures spells { IfOk result (λ m. MapText (map_bytes m) map.now) }
+    ensures text { IfOk result (λ m. m.rest ≡ map_text map.now) }
+    ensures spells { IfOk result (λ m. MapText m.rest map.now) }
 {
     let most = longest_line(alloc, map)?;
-    MapPieces::new(alloc, map_steps(map), most)
+    Piecewise::with_longest(alloc, map_steps(map), most)
 }
 
 // The lines for entries, and the last.

@@ -6,5 +6,5 @@ use Rattle.pddl_write.proofs.write.domain_steps.Goals as goal
 pub returns : goal.returns
 unfolding pieces_of_domain
 returns c =
-    ap (λ features. domain_pieces_with features c.parts.result.now) c.in_ok-kind_of.ensures
+    ap (λ features. domain_pieces_with features c.parts.result.now) c.in_ok-kind.ensures
     ∙ ap (λ p. domain_pieces_with (carries c.args.p.now) p) c.parts.ensures

@@ -12,5 +12,5 @@ reading-preserved c =
     let so_far : EntriesSo c.args.text.now c.reading.number c.reading.entries c.reading.actions c.reading.rest.now =
     record { same = c.reading.invariant.same; named = c.reading.invariant.named; counted = c.reading.invariant.counted } in
     let more = entry_more c.args.text.now c.reading.rest.now c.cut_at.result.front.now c.in-Some.behind.now c.reading.number c.reading.entries c.push.new.self
-    c.reading.actions c.read_new_entry.new.actions c.in_ok-entry.entry so_far line other c.in_ok-entry.ensures.read c.in_ok-push.ensures.ok c.in_ok-entry.ensures.actions shorter in
+    c.reading.actions c.read_new_entry.new.actions c.in-Ok.entry so_far line other c.in-Ok.ensures.read c.in-Ok-push.ensures.ok c.in-Ok.ensures.actions shorter in
     record { same = more.same; named = more.named; counted = more.counted }
