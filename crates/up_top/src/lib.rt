@@ -4,8 +4,6 @@
 mod answer;
 mod ask;
 mod back;
-#[cfg(test)]
-mod back_tests;
 mod command;
 mod compile;
 mod converted;
@@ -14,12 +12,8 @@ mod limit;
 mod lists;
 mod put;
 mod read;
-#[cfg(test)]
-mod reading_tests;
 mod say;
 mod status;
-#[cfg(test)]
-mod tests;
 mod top;
 mod verdict;
 mod whole;

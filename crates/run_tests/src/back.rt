@@ -1,12 +1,7 @@
-use crate::tests::{
-    CHEAPEST, DEEDS, DOORS, GRIPPER, LOCATION, LOCATIONS, Outcome, ROOMS, WALK, WRITTEN_MAP,
-    failing, is_held, run_line, store_of, word,
+use crate::runs::{is_held, run_line};
+use crate::texts::{
+    CHEAPEST, DEEDS, DOORS, GRIPPER, GRIPPER_PLAN, LOCATION, LOCATIONS, ROOMS, WALK, WRITTEN_MAP,
 };
-use std::alloc::Global;
-use up_store::Failing;
-use up_text::{List, Memory};
-
-const GRIPPER_PLAN: &str = "(pick ball1 rooma)\n(move rooma roomb)\n(drop ball1 roomb)\n";
 
 const EITHER: &str = "(define (problem s1) (:domain s) (:init (p)) (:goal (or (p) (r))))";
 
@@ -25,21 +20,10 @@ action walk-n2-n3 0 keep walk n2 n3
 end
 ";
 
-// The text that OUT holds before a run.
+// What the output holds before each run.
 const BEFORE: &str = "before";
 
-const BACK: &str = "back d p e plan out";
-
-// Runs `back` on a domain, a problem, a map and a plan.
-fn run_back(alloc: Global, texts: [&[u8]; 4], plans: List<Failing>) -> Result<Outcome, Memory> {
-    let [domain, problem, map, plan] = texts;
-    let mut store = store_of(alloc, [domain, problem, map], plans)?;
-    store.hold(&word(alloc, "plan")?, plan)?;
-    store.hold(&word(alloc, "out")?, BEFORE.as_bytes())?;
-    run_line(alloc, BACK, store, None)
-}
-
-// A domain, a problem, a map and a plan; the status and the text; what OUT holds behind the run.
+// A domain, a problem, a map and a plan; the status and the text; what the output holds after the run.
 const BACKS: [([&str; 4], u8, &str, &str); 19] = [
     (
         [GRIPPER, ROOMS, WRITTEN_MAP, GRIPPER_PLAN],
@@ -202,50 +186,16 @@ fn carries_plans_back(rt: HostRuntime) {
     let alloc = rt.alloc();
     for (texts, code, text, out) in BACKS {
         let [domain, problem, map, plan] = texts;
-        let texts = [
-            domain.as_bytes(),
-            problem.as_bytes(),
-            map.as_bytes(),
-            plan.as_bytes(),
+        let files = [
+            ("d", domain),
+            ("p", problem),
+            ("m", map),
+            ("plan", plan),
+            ("out", BEFORE),
         ];
-        let outcome = run_back(alloc, texts, List::new(alloc)).expect(&rt, "room");
+        let outcome = run_line(alloc, "back d p m plan out", &files).expect(&rt, "room");
         assert_eq!(rt; outcome.sink.bytes(), text.as_bytes());
         assert_eq!(rt; outcome.code, code);
-        assert!(rt; is_held(&outcome, alloc, "out", Some(out)));
-    }
-    let texts = [
-        GRIPPER.as_bytes(),
-        ROOMS.as_bytes(),
-        WRITTEN_MAP.as_bytes(),
-        b"\xff".as_slice(),
-    ];
-    let outcome = run_back(alloc, texts, List::new(alloc)).expect(&rt, "room");
-    assert_eq!(rt; outcome.sink.bytes(), b"plan refused 1:1\n".as_slice());
-    assert_eq!(rt; outcome.code, 12);
-}
-
-// The call that fails and how much of a write stands; the status and the text; OUT.
-const BACK_FAULTS: [(u64, Option<u64>, u8, &str, &str); 4] = [
-    (3, None, 4, "read fault e\n", BEFORE),
-    (4, None, 4, "read fault plan\n", BEFORE),
-    (5, None, 5, "write fault\n", BEFORE),
-    (5, Some(3), 5, "write fault\n", "(pi"),
-];
-
-#[test]
-fn keeps_out_where_back_fails(rt: HostRuntime) {
-    let alloc = rt.alloc();
-    let texts = [
-        GRIPPER.as_bytes(),
-        ROOMS.as_bytes(),
-        WRITTEN_MAP.as_bytes(),
-        GRIPPER_PLAN.as_bytes(),
-    ];
-    for (call, kept, code, text, out) in BACK_FAULTS {
-        let plans = failing(alloc, call, kept).expect(&rt, "room");
-        let outcome = run_back(alloc, texts, plans).expect(&rt, "room");
-        assert_eq!(rt; outcome.code, code);
-        assert_eq!(rt; outcome.sink.bytes(), text.as_bytes());
         assert!(rt; is_held(&outcome, alloc, "out", Some(out)));
     }
 }
