@@ -1,5 +1,6 @@
-ghost use Rattle.std.specs.Prelude.{◌≡◌, [], IfOk, Err};
+ghost use Rattle.std.specs.Prelude.{◌≡◌, IfOk, Err};
 ghost use Rattle.up_kind.specs.Features.{has};
+ghost use Rattle.up_pipeline.specs.Built.{built};
 ghost use Rattle.up_pipeline.specs.Chains.{Ascend, IsBest, NoneFits};
 
 use crate::engine::Engine;
@@ -58,10 +59,17 @@ pub fn choose_among(
     Err(ChooseError::NoPipeline)
 }
 
-/// The chain for a kind and an engine over the compilers that are built, of which there are none yet.
-pub fn choose(alloc: Global, kind: Kind, engine: &Engine) -> Result<Chain, ChooseError>
-    ensures found { IfOk result (λ chain. IsBest [] (has engine.now.features.0) (has kind.0) chain.stages) }
-    ensures none { result ≡ Err ChooseError.NoPipeline → NoneFits [] (has engine.now.features.0) (has kind.0) }
+/// The compilers whose code stands, in table order.
+pub fn built() -> &'static [CompilerId]
+    ensures { result.now ≡ built }
 {
-    choose_among(alloc, &[], kind, engine)
+    &[]
+}
+
+/// The chain for a kind and an engine over the compilers that are built.
+pub fn choose(alloc: Global, kind: Kind, engine: &Engine) -> Result<Chain, ChooseError>
+    ensures found { IfOk result (λ chain. IsBest built (has engine.now.features.0) (has kind.0) chain.stages) }
+    ensures none { result ≡ Err ChooseError.NoPipeline → NoneFits built (has engine.now.features.0) (has kind.0) }
+{
+    choose_among(alloc, built(), kind, engine)
 }

@@ -8,6 +8,6 @@ mod search;
 #[cfg(test)]
 mod tests;
 
-pub use chooser::{ChooseError, choose, choose_among};
+pub use chooser::{ChooseError, built, choose, choose_among};
 pub use engine::{Engine, EngineError};
 pub use up_compiler::Chain;

@@ -1,0 +1,8 @@
+use Rattle.up_answer.proofs.Puts.{stopped, then}
+use Rattle.up_answer.proofs.chain.+put_each.Goals as goal
+
+pub returns-in_err-put_stage-in-Some : goal.returns-in_err-put_stage-in-Some
+returns-in_err-put_stage-in-Some g n c = rw c.in-Some.ensures.cases.0 (stopped _ _ _ _ _ _ _ _ c.in_err-put_stage-in-Some.ensures c.from_residual.ensures.1)
+
+pub returns-in_ok-put_stage-in-Some : goal.returns-in_ok-put_stage-in-Some
+returns-in_ok-put_stage-in-Some g n c = rw c.in-Some.ensures.cases.0 (then _ _ _ _ _ _ _ _ _ c.in_ok-put_stage-in-Some.ensures c.put_each.ensures)
