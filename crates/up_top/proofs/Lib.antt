@@ -1,9 +1,6 @@
-pub mod Answered
-pub mod Carrying
-pub mod Chosen
-pub mod Complete
-pub mod Ends
-pub mod Inputs
-pub mod Judged
-pub mod Outputs
-pub mod Puts
+pub mod Ending
+pub mod Promises
+pub mod Reading
+pub mod Statuses
+pub mod Steps
+pub mod Writing

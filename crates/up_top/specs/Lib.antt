@@ -1,8 +1,8 @@
-pub mod Answers
-pub mod Cause
-pub mod Code
-pub mod Inputs
+pub mod Commands
+pub mod Ends
+pub mod Outcome
 pub mod Run
-pub mod Says
-pub mod Verdicts
+pub mod Steps
+pub mod Store
+pub mod Texts
 pub mod Words

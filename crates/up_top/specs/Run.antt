@@ -1,166 +1,149 @@
--- What a run leaves in the store.
-use Rattle.std.specs.Prelude.{◌≡◌, ◌⊎◌, ◌<◌, ⊤, ℕ, length, List, [], ◌∷◌, Option, None, Some, IfSome, Result, Ok, Err}
-use Rattle.up_store.specs.Outside.{Files, held_with, written_with, KeepsOrCuts}
-use Rattle.up_eval.specs.declared.metric.Value.{Value}
-use Rattle.up_tree.specs.declared.problem.Plan.{Plan}
-use Rattle.up_validate.specs.declared.verdict.Verdict.TheVariants as verdict
-use Rattle.up_validate.specs.Verdicts.{IsVerdict}
-use Rattle.plan_text.specs.Texts.{plan_text}
-use Rattle.up_compiler.specs.Identity.{identity_entries}
+-- What is promised of a run: what is held afterwards is said in `Store`, and the rest here.
+use Rattle.std.specs.Prelude.{◌≡◌, ⊤, ℕ, ◌≤◌, ◌<◌, List, ◌++◌, length, Option, None, Some, IfSome, IsSomeAnd, Bool, true, false, codes}
+use Rattle.up_store.specs.Outside.{Files, Rose, GotPrefix, input_limit, written_with}
 use Rattle.up_tree.specs.declared.problem.Parts.{Parts}
-use Rattle.up_map.specs.declared.map.Map.{Map}
-use Rattle.up_map.specs.Spells.{MapText}
-use Rattle.up_map.specs.Texts.{map_text}
-use Rattle.pddl_write.specs.Files.{domain_text, problem_text}
+use Rattle.up_answer.specs.Places.{word_at}
+use Rattle.up_answer.specs.declared.status.Status.{Status}
+use Rattle.up_answer.specs.declared.status.Status.TheVariants.{Done, Usage, Memory, Missing, ReadFault, WriteFault, InputTooLarge}
 use Rattle.up_top.specs.declared.command.Command.{Command}
-use Rattle.up_top.specs.declared.answer.Answer.{Answer}
-use Rattle.up_top.specs.declared.answer.Answer.TheVariants as answer
-use Rattle.up_top.specs.declared.answer.Conversion.TheVariants as conversion
-use Rattle.up_top.specs.declared.answer.Stop.{Stop}
-use Rattle.up_top.specs.declared.status.Status.{Status}
-use Rattle.up_top.specs.declared.status.Status.TheVariants.{Done, Memory, Missing, ReadFault, WriteFault, InputTooLarge}
-use Rattle.up_top.specs.Words.{word_at, command_of}
-use Rattle.up_top.specs.Answers.{stop_status, actions_text}
-use Rattle.up_top.specs.Verdicts.{verdict_text}
-use Rattle.up_top.specs.Cause.{IsCompile, IsBack, HasOutputs}
-use Rattle.up_top.specs.Inputs.{AreFour, AreInputs, AreReadAs, IsChosen, OfMade}
+use Rattle.up_top.specs.Commands.{IsOutput, IsPlaced, inputs_end}
+use Rattle.up_top.specs.Ends.{RoseAt}
+use Rattle.up_top.specs.Outcome.{AreReadAs, Outcome, Output, held_after}
+use Rattle.up_top.specs.Texts.{AreReadable}
+use Rattle.up_top.specs.Words.{command_of}
 
--- a text under the output name at a place of the words
-pub record Output : Type 0 where
-  pub place : ℕ
-  pub text : List ℕ
+-- ---- causes
 
--- what is held once these outputs are written in their order
-abbrev pub held_after : List (List ℕ) → List Output → Option Files → Option Files
-held_after words [] held = held
-held_after words (output ∷ outputs) held =
-    held_after words outputs (held_with (word_at words output.place) output.text held)
+-- a read that stopped raised the count of its name
+abbrev pub ReadCause : {S : Type 0} (faults misses larges : S → List ℕ → ℕ) → List (List ℕ) → S → S → Status → Type 0
+ReadCause faults misses larges words old new (Missing at) = RoseAt misses old new (word_at words at)
+ReadCause faults misses larges words old new (ReadFault at) = RoseAt faults old new (word_at words at)
+ReadCause faults misses larges words old new (InputTooLarge at) = RoseAt larges old new (word_at words at)
+ReadCause faults misses larges words old new status = ⊤
 
--- the three outputs with these texts
-abbrev pub outputs_of : List ℕ → List ℕ → List ℕ → List Output
-outputs_of domain problem map =
-    record { place = 4; text = domain } ∷ record { place = 5; text = problem } ∷ record { place = 6; text = map } ∷ []
+-- a write that failed raised the count of its name
+abbrev pub WriteCause : {S : Type 0} (losses : S → List ℕ → ℕ) → List (List ℕ) → S → S → Status → Type 0
+WriteCause losses words old new (WriteFault (Some at)) = RoseAt losses old new (word_at words at)
+WriteCause losses words old new status = ⊤
 
--- the first outputs in their order are written whole, and the others are as before
-abbrev pub SomeWritten : List (List ℕ) → List Output → Option Files → Option Files → Type 0
-SomeWritten words [] old new = new ≡ old
-SomeWritten words (output ∷ outputs) old new =
-    (new ≡ old) ⊎ SomeWritten words outputs (held_with (word_at words output.place) output.text old) new
+-- what a told store holds under the name at which a read stopped
+abbrev pub StopsAt : List (List ℕ) → Status → Files → Type 0
+StopsAt words (Missing at) files = files (word_at words at) ≡ None
+StopsAt words (InputTooLarge at) files = IsSomeAnd (files (word_at words at)) (λ text. input_limit < length text)
+StopsAt words status files = ⊤
 
--- The write at this place failed: the outputs before it are whole, its own is as before or a prefix, and those
--- behind it are as before.
-abbrev pub FailsAt : List (List ℕ) → List Output → Option Files → Option Files → ℕ → Type 0
-FailsAt words [] old new at = ⊥
-FailsAt words (output ∷ outputs) old new at =
-    ((at ≡ output.place) × KeepsOrCuts (word_at words at) output.text old new)
-    ⊎ FailsAt words outputs (held_with (word_at words output.place) output.text old) new at
+-- all inputs of the command are held and not too long
+abbrev pub AllReadable : Option Command → List (List ℕ) → Files → Type 0
+AllReadable None words files = ⊥
+AllReadable (Some command) words files = AreReadable words (inputs_end command) files
 
--- what is held after each status, where the outputs of status 0 are these
-abbrev pub HeldAfter : List (List ℕ) → List Output → Option Files → Option Files → Status → Type 0
-HeldAfter words outputs old new Done = new ≡ held_after words outputs old
-HeldAfter words outputs old new Memory = SomeWritten words outputs old new
-HeldAfter words outputs old new (WriteFault None) = new ≡ held_after words outputs old
-HeldAfter words outputs old new (WriteFault (Some at)) = FailsAt words outputs old new at
-HeldAfter words outputs old new status = new ≡ old
+-- A run that stops at an input stops at the first that can't be read, and one that stops behind the inputs has read
+-- them all.
+abbrev pub StopsFirst : List (List ℕ) → Status → Files → Type 0
+StopsFirst words (Missing at) files = AreReadable words at files
+StopsFirst words (ReadFault at) files = AreReadable words at files
+StopsFirst words (InputTooLarge at) files = AreReadable words at files
+StopsFirst words Usage files = ⊤
+StopsFirst words Memory files = ⊤
+StopsFirst words status files = AllReadable (command_of words) words files
 
--- a problem that no compiler changed, and its map
-pub record IsWhole (engine : List ℕ) (problem : Parts) (map : Map) : Type 0 where
-  pub chosen : IsChosen engine problem map.stages.stages
-  pub kept : map.back ≡ identity_entries problem.actions
+-- The cause of a status: it is one of the command, and its place that of an input or an output; the count of that name rose, or
+-- that of the sink; and where the store tells what it holds, an input at which the run stops is the first that can't be read.
+pub record Caused {S : Type 0} (held : S → Option Files) (faults misses larges losses : S → List ℕ → ℕ) (words : List (List ℕ)) (old new : S) (before now : ℕ) (status : Status) : Type 0 where
+  pub placed : IsPlaced (command_of words) status
+  pub read : ReadCause faults misses larges words old new status
+  pub write : WriteCause losses words old new status
+  pub put : status ≡ WriteFault None → Rose before now
+  pub told : IfSome (held old) (StopsAt words status)
+  pub first : IfSome (held old) (StopsFirst words status)
 
--- The texts of the problem that the held texts read as, and of its map, whose chain is chosen for the held engine text. The
--- map's text spells the map.
-pub record AreOutputs (words : List (List ℕ)) (held : Option Files) (problem : Parts) (outputs : List Output) : Type 0 where
-  pub domain : List ℕ
-  pub source : List ℕ
-  pub engine : List ℕ
-  pub holds : IfSome held (AreInputs words domain source engine)
-  pub reads : AreReadAs domain source problem
-  pub map : Map
-  pub whole : IsWhole engine problem map
-  pub spelled : MapText (map_text map) map
-  pub texts : outputs ≡ outputs_of (domain_text problem) (problem_text problem) (map_text map)
+-- ---- texts
 
--- the status of the writes
-abbrev pub write_status : {T : Type 0} → Result T Stop → Status
-write_status (Ok done) = Done
-write_status (Err stop) = stop_status stop
+-- the status after the put of an answer's text
+abbrev pub ended : Status → Bool → Status
+ended Done true = Done
+ended Done false = WriteFault None
+ended status put = status
 
--- The statuses at which nothing is written: all but those of a command with outputs that is done or whose write or
--- put failed.
-abbrev pub KeepsHeld : Option Command → Status → Type 0
-KeepsHeld command Done = ¬ HasOutputs command
-KeepsHeld command (WriteFault at) = ¬ HasOutputs command
-KeepsHeld command status = ⊤
+-- A text was put, or a prefix of it where the sink failed. A put that failed makes done a write fault without a place.
+pub data IsPut {K : Type 0} (written : K → Option (List ℕ)) (faults : K → ℕ) (status : Status) (text : List ℕ) (old new : K) : Type 0 where
+  whole : ¬ (status ≡ WriteFault None) → written new ≡ written_with text (written old) → IsPut written faults status text old new
+  prefix : ¬ (status ≡ Done) → Rose (faults old) (faults new) → GotPrefix text (written old) (written new)
+      → IsPut written faults status text old new
 
--- the plan is valid for the problem with this metric, and this is its text
-pub record IsWritten (metric : Value) (text : List ℕ) (parts : Parts) (made : Plan) : Type 0 where
-  pub valid : IsVerdict parts made (verdict.Valid metric)
-  pub written : text ≡ plan_text made
-
--- The text of the plan that the held map makes of the held plan, and that is valid for the problem of the held texts.
-pub record IsCarried (words : List (List ℕ)) (held : Option Files) (metric : Value) (text : List ℕ) : Type 0 where
-  pub domain : List ℕ
-  pub problem : List ℕ
-  pub map : List ℕ
-  pub plan : List ℕ
-  pub holds : IfSome held (AreFour words domain problem map plan)
-  pub of : OfMade domain problem map plan (IsWritten metric text)
-
--- what is held after each status of `back`, where this is the text of its output
-abbrev pub HeldBack : List (List ℕ) → List ℕ → Option Files → Option Files → Status → Type 0
-HeldBack words text old new Done = new ≡ held_with (word_at words 5) text old
-HeldBack words text old new (WriteFault None) = new ≡ held_with (word_at words 5) text old
-HeldBack words text old new (WriteFault (Some at)) = KeepsOrCuts (word_at words 5) text old new
-HeldBack words text old new status = new ≡ old
-
--- what a run leaves: all as it was, or what comes of the writes of a problem and its map, or of a converted plan
-pub data Leaves (words : List (List ℕ)) (old new : Option Files) (status : Status) : Type 0 where
-  untouched : KeepsHeld (command_of words) status → new ≡ old → Leaves words old new status
-  wrote : (outputs : List Output) (problem : Parts) → IsCompile (command_of words) → AreOutputs words old problem outputs
-      → HeldAfter words outputs old new status → Leaves words old new status
-  carried : (metric : Value) (text : List ℕ) → IsBack (command_of words) → IsCarried words old metric text
-      → HeldBack words text old new status → Leaves words old new status
-
--- A compile that is done: the texts of the problem and its map are held, and this is the number of its actions.
-pub record Compiles (words : List (List ℕ)) (old new : Option Files) (count : ℕ) : Type 0 where
-  pub problem : Parts
+-- a line of the outcome with this status
+pub record HasLine (words : List (List ℕ)) (held : Option Files) (status : Status) (line : List ℕ) : Type 0 where
   pub outputs : List Output
-  pub are : AreOutputs words old problem outputs
-  pub held : new ≡ held_after words outputs old
-  pub counted : count ≡ length problem.actions
+  pub outcome : Outcome AreReadAs words held status line outputs
 
--- the same of an answer that tells how many actions were compiled
-abbrev pub CompilesAt : List (List ℕ) → Option Files → Option Files → Answer → Type 0
-CompilesAt words old new (answer.Actions count) = Compiles words old new count
-CompilesAt words old new answer = ⊤
+-- the line of a status
+abbrev pub IsLine : List (List ℕ) → Option Files → Status → List ℕ → Type 0
+IsLine words held Usage line = line ≡ codes "usage\n"
+IsLine words held Memory line = line ≡ codes "out of memory\n"
+IsLine words held (Missing at) line = line ≡ codes "missing " ++ word_at words at ++ codes "\n"
+IsLine words held (ReadFault at) line = line ≡ codes "read fault " ++ word_at words at ++ codes "\n"
+IsLine words held (WriteFault (Some at)) line = line ≡ codes "write fault\n"
+IsLine words held (WriteFault None) line = HasLine words held Done line
+IsLine words held (InputTooLarge at) line = line ≡ codes "too large " ++ word_at words at ++ codes "\n"
+IsLine words held status line = HasLine words held status line
 
--- What a compile that is done holds and puts.
-pub record CompilesDone (words : List (List ℕ)) (old new : Option Files) (before now : Option (List ℕ)) : Type 0 where
-  pub count : ℕ
-  pub compiles : Compiles words old new count
-  pub put : now ≡ written_with (actions_text count) before
+-- the line of the status was put, or a prefix of it where the sink failed
+pub record PutsLine {K : Type 0} (written : K → Option (List ℕ)) (faults : K → ℕ) (words : List (List ℕ)) (held : Option Files) (old new : K) (status : Status) : Type 0 where
+  pub line : List ℕ
+  pub is : IsLine words held status line
+  pub put : IsPut written faults status line old new
 
--- A `back` that is done: the text of the converted plan is held, which is valid with this metric.
-pub record Carries (words : List (List ℕ)) (old new : Option Files) (metric : Value) : Type 0 where
-  pub text : List ℕ
-  pub is : IsCarried words old metric text
-  pub held : new ≡ held_with (word_at words 5) text old
+-- ---- outcomes
 
--- the same of an answer that tells that a converted plan is valid
-abbrev pub CarriesAt : List (List ℕ) → Option Files → Option Files → Answer → Type 0
-CarriesAt words old new (answer.Converted (conversion.Judged (verdict.Valid metric))) = Carries words old new metric
-CarriesAt words old new answer = ⊤
+-- what was due is done: its outputs are held, and its line is put
+pub record CameTo {K : Type 0} (Taken : List ℕ → List ℕ → Parts → Type 0) (written : K → Option (List ℕ)) (faults : K → ℕ) (words : List (List ℕ)) (held kept : Option Files) (old new : K) (status : Status) : Type 0 where
+  pub line : List ℕ
+  pub outputs : List Output
+  pub outcome : Outcome Taken words held status line outputs
+  pub holds : kept ≡ held_after words outputs held
+  pub put : IsPut written faults status line old new
 
--- What a `back` that is done holds and puts.
-pub record CarriesDone (words : List (List ℕ)) (old new : Option Files) (before now : Option (List ℕ)) : Type 0 where
-  pub metric : Value
-  pub carries : Carries words old new metric
-  pub put : now ≡ written_with (verdict_text (verdict.Valid metric)) before
+-- status 0 is due
+pub record MayBeDone (Taken : List ℕ → List ℕ → Parts → Type 0) (words : List (List ℕ)) (held : Option Files) : Type 0 where
+  pub line : List ℕ
+  pub outputs : List Output
+  pub outcome : Outcome Taken words held Done line outputs
 
--- a name stands at each place that a status carries
-abbrev pub HasPlace : List (List ℕ) → Status → Type 0
-HasPlace words (Missing at) = at < length words
-HasPlace words (ReadFault at) = at < length words
-HasPlace words (InputTooLarge at) = at < length words
-HasPlace words status = ⊤
+-- Each status of an outcome comes only where it is due, with its line and its outputs; a write or a put fails only where status
+-- 0 is due. The others say nothing of the texts.
+abbrev pub ComesTo : {K : Type 0} (Taken : List ℕ → List ℕ → Parts → Type 0) (written : K → Option (List ℕ)) (faults : K → ℕ) → List (List ℕ) → (held kept : Option Files) → K → K → Status → Type 0
+ComesTo Taken written faults words held kept old new Usage = ⊤
+ComesTo Taken written faults words held kept old new Memory = ⊤
+ComesTo Taken written faults words held kept old new (Missing at) = ⊤
+ComesTo Taken written faults words held kept old new (ReadFault at) = ⊤
+ComesTo Taken written faults words held kept old new (InputTooLarge at) = ⊤
+ComesTo Taken written faults words held kept old new (WriteFault at) = MayBeDone Taken words held
+ComesTo Taken written faults words held kept old new status = CameTo Taken written faults words held kept old new status
+
+-- the count of no input's name rose
+abbrev pub NoInputRose : {S : Type 0} → (S → List ℕ → ℕ) → List (List ℕ) → Command → S → S → Type 0
+NoInputRose count words command old new = (at : ℕ) → 1 ≤ at → at < inputs_end command → ¬ RoseAt count old new (word_at words at)
+
+-- the count of no output's name rose
+abbrev pub NoOutputRose : {S : Type 0} → (S → List ℕ → ℕ) → List (List ℕ) → Command → S → S → Type 0
+NoOutputRose count words command old new = (at : ℕ) → IsOutput command at → ¬ RoseAt count old new (word_at words at)
+
+-- the words fit a command, its inputs can be read, and neither a read, a write nor a put failed
+pub record AllWell {S : Type 0} (faults losses : S → List ℕ → ℕ) (words : List (List ℕ)) (old new : S) (before now : ℕ) (files : Files) : Type 0 where
+  pub command : Command
+  pub fits : command_of words ≡ Some command
+  pub readable : AreReadable words (inputs_end command) files
+  pub reads : NoInputRose faults words command old new
+  pub writes : NoOutputRose losses words command old new
+  pub puts : ¬ Rose before now
+
+-- a status that is due, or want of memory
+pub data IsDueOrMemory (Taken : List ℕ → List ℕ → Parts → Type 0) (words : List (List ℕ)) (held : Option Files) : Status → Type 0 where
+  no_memory : IsDueOrMemory Taken words held Memory
+  due : (status : Status) (line : List ℕ) (outputs : List Output) → Outcome Taken words held status line outputs
+      → IsDueOrMemory Taken words held status
+
+-- where nothing fails, the run ends with a status that is due, or for want of memory
+abbrev pub EndsDue : {S : Type 0} (Taken : List ℕ → List ℕ → Parts → Type 0) (faults losses : S → List ℕ → ℕ) → List (List ℕ) → S → S → (before now : ℕ) → Status → Files → Type 0
+EndsDue Taken faults losses words old new before now status files =
+    AllWell faults losses words old new before now files → IsDueOrMemory Taken words (Some files) status

@@ -1,12 +1,9 @@
 -- Which words fit which command.
-use Rattle.std.specs.Prelude.{⊤, ◌≤◌, ℕ, ◌+◌, ◌*◌, ◌-◌, Bool, ◌&&◌, not, ◌==◌, nat_le, if◌then◌else◌, List, [], ◌∷◌, length, Option, None, Some, codes, bytes_eq, slice_get, slice_range, unwrap_or}
+use Rattle.std.specs.Prelude.{⊤, ◌≤◌, ℕ, ◌+◌, ◌*◌, ◌-◌, Bool, ◌&&◌, not, ◌==◌, nat_le, if◌then◌else◌, List, [], ◌∷◌, length, Option, None, Some, codes, bytes_eq, slice_range}
 use Rattle.std.specs.List.{list_any}
+use Rattle.up_answer.specs.Places.{word_at}
 use Rattle.up_top.specs.declared.command.Command.{Command}
 use Rattle.up_top.specs.declared.command.Command.TheVariants.{Kind, Pipeline, Compile, Validate, Back}
-
--- the word at a place
-unfoldable pub word_at : List (List ℕ) → ℕ → List ℕ
-word_at words at = unwrap_or (slice_get words at) []
 
 -- the name at a place is none of those before it, which begin behind the command
 abbrev pub is_new : List (List ℕ) → ℕ → Bool

@@ -1,32 +1,22 @@
 //! The top call: words, a store and a sink in, a status out.
 #![tactic(auto)]
 
-mod answer;
-mod ask;
 mod back;
-#[cfg(test)]
-mod back_tests;
+mod chain;
 mod command;
 mod compile;
-mod converted;
 mod judge;
+mod kind;
 mod limit;
-mod lists;
-mod put;
+mod pipeline;
+mod problem;
 mod read;
-#[cfg(test)]
-mod reading_tests;
-mod say;
-mod status;
-#[cfg(test)]
-mod tests;
 mod top;
-mod verdict;
-mod whole;
+mod validate;
 mod words;
 mod write;
 
 pub use command::Command;
-pub use status::Status;
 pub use top::run;
+pub use up_answer::Status;
 pub use words::command_of;

@@ -1,9 +1,10 @@
 ghost use Rattle.std.specs.Prelude.{◌≡◌, ◌<◌, ◌≤◌, length, bytes_eq};
 ghost use Rattle.std.specs.List.{list_any};
-ghost use Rattle.up_top.specs.Words.{IsLongEnough, are_outputs, back_with, command_of, compile_with, is_new, limit_in, word_at};
+ghost use Rattle.up_top.specs.Words.{IsLongEnough, are_outputs, back_with, command_of, compile_with, is_new, limit_in};
 
 use crate::command::Command;
 use crate::limit::limit_of;
+use up_answer::name_at;
 use up_store::Word;
 
 /// The limit where no word gives one.
@@ -14,15 +15,6 @@ fn occurs(words: &[Word], name: &[u8]) -> bool
     ensures { result ≡ list_any (λ word. bytes_eq word name.now) words.now }
 {
     words.iter().any(|word| word.bytes() == name)
-}
-
-/// The word at a place.
-#[tactic(auto, unfolding(crate::specs::Words::word_at))]
-pub(crate) fn name_at(words: &[Word], at: usize) -> &Word
-    requires { at < length words.now }
-    ensures { result.now ≡ word_at words.now at }
-{
-    &words[at]
 }
 
 // Whether the name at a place is none of those before it.

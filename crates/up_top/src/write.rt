@@ -1,14 +1,12 @@
-ghost use Rattle.std.specs.Prelude.{◌≡◌, ◌≤◌, ◌<◌, [], ◌∷◌, length};
-ghost use Rattle.up_store.specs.Outside.{NoneFalls};
-ghost use Rattle.up_top.specs.Cause.{WriteCause, IsWriteStatus};
-ghost use Rattle.up_top.specs.Run.{HeldAfter, outputs_of, write_status};
+ghost use Rattle.std.specs.Prelude.{◌≤◌, ◌<◌, [], ◌∷◌, length};
+ghost use Rattle.up_top.specs.Ends.{Written};
+ghost use Rattle.up_top.specs.Outcome.{compiled_outputs};
 
-use crate::answer::Stop;
-use crate::words::name_at;
 use std::alloc::Global;
+use up_answer::{Stop, name_at};
 use up_store::{Pieces, Store, Word, WriteFail};
 
-// Writes a text under the output name at a place.
+// Writes a text in pieces under the output name at a place.
 fn write_output<W: Store, P: Pieces>(
     alloc: Global,
     words: &[Word],
@@ -17,13 +15,7 @@ fn write_output<W: Store, P: Pieces>(
     store: &mut W,
 ) -> Result<(), Stop>
     requires { at < length words.now }
-    ensures held { HeldAfter words.now (record { place = at; text = P.rest pieces.old } ∷ []) (W.held store.old) (W.held store.new) (write_status result) }
-    ensures stop { IsWriteStatus at at (write_status result) }
-    ensures cause { WriteCause W.losses words.now store.old store.new (write_status result) }
-    ensures losses { NoneFalls (W.losses store.old) (W.losses store.new) }
-    ensures faults { W.faults store.new ≡ W.faults store.old }
-    ensures misses { W.misses store.new ≡ W.misses store.old }
-    ensures larges { W.larges store.new ≡ W.larges store.old }
+    ensures { Written W.held W.losses words.now (record { place = at; text = P.rest pieces.old } ∷ []) store.old store.new result }
 {
     match store.write_pieces(alloc, name_at(words, at), pieces) {
         Ok(()) => Ok(()),
@@ -32,8 +24,7 @@ fn write_output<W: Store, P: Pieces>(
     }
 }
 
-/// Writes the three texts in the order of the words.
-#[tactic(auto, using(crate::proofs::Outputs::writes))]
+/// Writes a domain, a problem and a map in the order of the words.
 pub(crate) fn write_outputs<W: Store, D: Pieces, P: Pieces, M: Pieces>(
     alloc: Global,
     words: &[Word],
@@ -43,15 +34,27 @@ pub(crate) fn write_outputs<W: Store, D: Pieces, P: Pieces, M: Pieces>(
     store: &mut W,
 ) -> Result<(), Stop>
     requires { 7 ≤ length words.now }
-    ensures held { HeldAfter words.now (outputs_of (D.rest domain.old) (P.rest problem.old) (M.rest map.old)) (W.held store.old) (W.held store.new) (write_status result) }
-    ensures stop { IsWriteStatus 4 6 (write_status result) }
-    ensures cause { WriteCause W.losses words.now store.old store.new (write_status result) }
-    ensures losses { NoneFalls (W.losses store.old) (W.losses store.new) }
-    ensures faults { W.faults store.new ≡ W.faults store.old }
-    ensures misses { W.misses store.new ≡ W.misses store.old }
-    ensures larges { W.larges store.new ≡ W.larges store.old }
+    ensures { Written W.held W.losses words.now (compiled_outputs (D.rest domain.old) (P.rest problem.old) (M.rest map.old)) store.old store.new result }
 {
     write_output(alloc, words, 4, domain, store)?;
     write_output(alloc, words, 5, problem, store)?;
     write_output(alloc, words, 6, map, store)
+}
+
+/// Writes a text under the output name at a place.
+pub(crate) fn write_text<W: Store>(
+    alloc: Global,
+    words: &[Word],
+    at: usize,
+    text: &[u8],
+    store: &mut W,
+) -> Result<(), Stop>
+    requires { at < length words.now }
+    ensures { Written W.held W.losses words.now (record { place = at; text = text.now } ∷ []) store.old store.new result }
+{
+    match store.write(alloc, name_at(words, at), text) {
+        Ok(()) => Ok(()),
+        Err(WriteFail::Memory) => Err(Stop::Memory),
+        Err(WriteFail::Failed) => Err(Stop::WriteFault { word: at }),
+    }
 }

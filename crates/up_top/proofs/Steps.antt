@@ -1,0 +1,83 @@
+-- What the steps of a command make certain of its answer.
+use Rattle.std.proofs.Common.{◌≡◌, ℕ, List, [], Option, Some, Ok, Err, refl, sym}
+use Rattle.up_tree.specs.declared.problem.Parts.{Parts}
+use Rattle.up_tree.specs.declared.problem.Plan.{Plan}
+use Rattle.up_compiler.specs.declared.back.Entry.{Entry}
+use Rattle.up_map.specs.declared.map.Map.{Map}
+use Rattle.up_map.specs.declared.back_error.BackError.TheVariants as unfit
+use Rattle.up_map.specs.Spells.{MapText}
+use Rattle.up_map.specs.Unfit.{first_unfit}
+use Rattle.plan_text.specs.Spells.{PlanText}
+use Rattle.up_validate.specs.declared.verdict.Verdict.TheVariants as verdict
+use Rattle.up_answer.specs.declared.answer.Answer.{Answer}
+use Rattle.up_top.specs.declared.command.Command.{Command}
+use Rattle.up_top.specs.declared.command.Command.TheVariants.{Validate, Back}
+use Rattle.up_top.specs.Commands.{HasEngine}
+use Rattle.up_top.specs.Ends.{Answers}
+use Rattle.up_top.specs.Outcome.{AreReadAs, Due, IsBeforePlan, IsConverted, IsUnfit}
+use Rattle.up_top.specs.Steps.{IsOnPlan, StopsChoice, StopsConversion, StopsFit, StopsMap, StopsPlan, StopsRead, StopsValid}
+use Rattle.up_top.specs.Texts.{Texts}
+
+pub read_answers : (command : Command) (t : Texts) (a : Answer) → StopsRead t.domain t.problem a → Answers command t [] a
+read_answers command t _ StopsRead.no_memory = Answers.no_memory
+read_answers command t _ (StopsRead.refused file place reason name fault) = Answers.due _ (Due.refused command file place reason name fault)
+
+pub choice_answers : (command : Command) (t : Texts) (parts : Parts) (a : Answer) → HasEngine command → AreReadAs t.domain t.problem parts
+    → StopsChoice t.engine parts a → Answers command t [] a
+choice_answers command t parts _ has reads StopsChoice.no_memory = Answers.no_memory
+choice_answers command t parts _ has reads (StopsChoice.unread error is) = Answers.due _ (Due.unread command parts error has reads is)
+choice_answers command t parts _ has reads (StopsChoice.no_chain none) = Answers.due _ (Due.no_chain command parts has reads none)
+
+pub plan_answers : (command : Command) (t : Texts) (parts : Parts) (a : Answer) → AreReadAs t.domain t.problem parts → IsBeforePlan command t
+    → StopsPlan t.plan a → Answers command t [] a
+plan_answers command t parts _ reads before StopsPlan.no_memory = Answers.no_memory
+plan_answers command t parts _ reads before (StopsPlan.unspelled place faulty) = Answers.due _ (Due.unspelled command parts place reads before faulty)
+
+pub on_plan : (t : Texts) (parts : Parts) (plan : Plan) (a : Answer) → AreReadAs t.domain t.problem parts → PlanText t.plan plan
+    → IsOnPlan parts plan a → Answers Validate t [] a
+on_plan t parts plan _ reads spelled IsOnPlan.no_memory = Answers.no_memory
+on_plan t parts plan _ reads spelled (IsOnPlan.judged (verdict.Valid metric) is) = Answers.due _ (Due.judged Validate parts plan (verdict.Valid metric) reads spelled is)
+on_plan t parts plan _ reads spelled (IsOnPlan.judged (verdict.BadStep number reason) is) = Answers.due _ (Due.judged Validate parts plan (verdict.BadStep number reason) reads spelled is)
+on_plan t parts plan _ reads spelled (IsOnPlan.judged verdict.GoalOpen is) = Answers.due _ (Due.judged Validate parts plan verdict.GoalOpen reads spelled is)
+on_plan t parts plan _ reads spelled (IsOnPlan.judged (verdict.Broken number) is) = Answers.due _ (Due.judged Validate parts plan (verdict.Broken number) reads spelled is)
+on_plan t parts plan _ reads spelled (IsOnPlan.too_large number big) = Answers.due _ (Due.too_large Validate parts plan number reads spelled big)
+
+-- ---- conversions
+
+pub unknown_unfit : (entries : List Entry) (plan : Plan) (number : ℕ) → first_unfit entries 1 plan.steps ≡ Some (unfit.UnknownAction number) → IsUnfit entries plan number
+unknown_unfit entries plan number same = rw same refl
+
+pub arity_unfit : (entries : List Entry) (plan : Plan) (number : ℕ) → first_unfit entries 1 plan.steps ≡ Some (unfit.Arity number) → IsUnfit entries plan number
+arity_unfit entries plan number same = rw same refl
+
+pub ruleset unfit_steps = (unknown_unfit, arity_unfit)
+
+pub map_stops : (map plan : List ℕ) (a : Answer) → StopsMap map a → StopsConversion map plan a
+map_stops map plan _ StopsMap.no_memory = StopsConversion.no_memory
+map_stops map plan _ (StopsMap.bad_line number is) = StopsConversion.bad_line number is
+map_stops map plan _ (StopsMap.second_line number is) = StopsConversion.second_line number is
+
+pub plan_stops : (map plan : List ℕ) (by : Map) (a : Answer) → MapText map by → StopsPlan plan a → StopsConversion map plan a
+plan_stops map plan by _ spelled StopsPlan.no_memory = StopsConversion.no_memory
+plan_stops map plan by _ spelled (StopsPlan.unspelled place faulty) = StopsConversion.unspelled place by spelled faulty
+
+pub fit_stops : (map plan : List ℕ) (by : Map) (of : Plan) (a : Answer) → MapText map by → PlanText plan of → StopsFit by.back of a → StopsConversion map plan a
+fit_stops map plan by of _ spelled_map spelled_plan StopsFit.no_memory = StopsConversion.no_memory
+fit_stops map plan by of _ spelled_map spelled_plan (StopsFit.unfit number is) =
+    StopsConversion.unfit number (record { by = by; of = of; spelled_map = spelled_map; spelled_plan = spelled_plan; unfit = is })
+
+pub conversion_answers : (t : Texts) (parts : Parts) (a : Answer) → AreReadAs t.domain t.problem parts → StopsConversion t.map t.plan a → Answers Back t [] a
+conversion_answers t parts _ reads StopsConversion.no_memory = Answers.no_memory
+conversion_answers t parts _ reads (StopsConversion.bad_line number is) = Answers.due _ (Due.bad_line parts number reads is)
+conversion_answers t parts _ reads (StopsConversion.second_line number is) = Answers.due _ (Due.second_line parts number reads is)
+conversion_answers t parts _ reads (StopsConversion.unspelled place of spelled faulty) =
+    Answers.due _ (Due.unspelled Back parts place reads (record { map = of; spelled = spelled }) faulty)
+conversion_answers t parts _ reads (StopsConversion.unfit number is) = Answers.due _ (Due.unfit parts number reads is)
+
+pub valid_answers : (t : Texts) (parts : Parts) (plan : Plan) (a : Answer) → AreReadAs t.domain t.problem parts → IsConverted t.map t.plan plan
+    → StopsValid parts plan a → Answers Back t [] a
+valid_answers t parts plan _ reads made StopsValid.no_memory = Answers.no_memory
+valid_answers t parts plan _ reads made (StopsValid.bad_step number reason is) = Answers.due _ (Due.judged Back parts plan (verdict.BadStep number reason) reads made is)
+valid_answers t parts plan _ reads made (StopsValid.open_goal is) = Answers.due _ (Due.judged Back parts plan verdict.GoalOpen reads made is)
+valid_answers t parts plan _ reads made (StopsValid.broken number is) = Answers.due _ (Due.judged Back parts plan (verdict.Broken number) reads made is)
+valid_answers t parts plan _ reads made (StopsValid.too_large number big) = Answers.due _ (Due.too_large Back parts plan number reads made big)

@@ -1,5 +1,0 @@
-use Rattle.std.proofs.Common.{length}
-use Rattle.up_top.proofs.lists.+put_flags.Given as goal
-
-abbrev pub decreases-put_flags : goal.decreases-put_flags
-decreases-put_flags g l = length l.flags.now

@@ -1,5 +1,0 @@
-use Rattle.up_top.proofs.whole.problem_of.Goals as goal
-
-pub returns-in-Err-Refused-clause-stops : goal.returns-in-Err-Refused-clause-stops
-returns-in-Err-Refused-clause-stops c =
-    rw c.in-Err-Refused.field-0-is at (rw c.deref.ensures.value at (rw c.deref-2.ensures.value at (c.in-Err-Refused.ensures.refused (λ same. cc))))
