@@ -14,8 +14,15 @@ use Rattle.up_top.specs.declared.command.Command.{Command}
 use Rattle.up_top.specs.declared.command.Command.TheVariants.{Validate, Back}
 use Rattle.up_top.specs.Commands.{HasEngine}
 use Rattle.up_top.specs.Ends.{Answers}
-use Rattle.up_top.specs.Outcome.{AreReadAs, Due, IsBeforePlan, IsConverted, IsUnfit}
-use Rattle.up_top.specs.Steps.{IsOnPlan, StopsChoice, StopsConversion, StopsFit, StopsMap, StopsPlan, StopsRead, StopsValid}
+use Rattle.up_top.specs.Outcome.{AreReadAs, Due, IsBeforePlan, IsChosen, IsConverted, IsUnfit, NoChain}
+use Rattle.up_kind.specs.Carried.{carries}
+use Rattle.up_kind.specs.Features.{FeatureSet, has}
+use Rattle.up_compiler.specs.declared.id.CompilerId.{CompilerId}
+use Rattle.up_pipeline.specs.declared.engine.Engine.{Engine}
+use Rattle.up_pipeline.specs.Built.{built}
+use Rattle.up_pipeline.specs.Chains.{IsBest, NoneFits}
+use Rattle.up_pipeline.specs.Engine.{engine_of}
+use Rattle.up_top.specs.Steps.{IsOnPlan, StopsChoice, StopsConversion, StopsEngine, StopsFit, StopsMap, StopsPlan, StopsRead, StopsValid}
 use Rattle.up_top.specs.Texts.{Texts}
 
 pub read_answers : (command : Command) (t : Texts) (a : Answer) → StopsRead t.domain t.problem a → Answers command t [] a
@@ -81,3 +88,17 @@ valid_answers t parts plan _ reads made (StopsValid.bad_step number reason is) =
 valid_answers t parts plan _ reads made (StopsValid.open_goal is) = Answers.due _ (Due.judged Back parts plan verdict.GoalOpen reads made is)
 valid_answers t parts plan _ reads made (StopsValid.broken number is) = Answers.due _ (Due.judged Back parts plan (verdict.Broken number) reads made is)
 valid_answers t parts plan _ reads made (StopsValid.too_large number big) = Answers.due _ (Due.too_large Back parts plan number reads made big)
+
+-- ---- chains
+
+pub engine_stops : (text : List ℕ) (parts : Parts) (a : Answer) → StopsEngine text a → StopsChoice text parts a
+engine_stops text parts _ StopsEngine.no_memory = StopsChoice.no_memory
+engine_stops text parts _ (StopsEngine.unread error is) = StopsChoice.unread error is
+
+pub chosen_is : (text : List ℕ) (parts : Parts) (stages : List CompilerId) (of : Engine) (K : FeatureSet) → engine_of text ≡ Ok of
+    → IsBest built (has of.features.0) K stages → K ≡ carries parts → IsChosen text parts stages
+chosen_is text parts stages of K says best same = record { engine_is = of; says = says; best = rw same at best }
+
+pub none_is : (text : List ℕ) (parts : Parts) (of : Engine) (K : FeatureSet) → engine_of text ≡ Ok of
+    → NoneFits built (has of.features.0) K → K ≡ carries parts → NoChain text parts
+none_is text parts of K says none same = record { engine_is = of; says = says; none = rw same at none }
