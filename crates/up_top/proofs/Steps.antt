@@ -1,5 +1,5 @@
 -- What the steps of a command make certain of its answer.
-use Rattle.std.proofs.Common.{◌≡◌, ℕ, List, [], Option, Some, Ok, Err, refl, sym}
+use Rattle.std.proofs.Common.{◌≡◌, ℕ, ◌∙◌, List, [], ◌∷◌, Option, Some, Ok, Err, refl, sym, subst}
 use Rattle.up_tree.specs.declared.problem.Parts.{Parts}
 use Rattle.up_tree.specs.declared.problem.Plan.{Plan}
 use Rattle.up_compiler.specs.declared.back.Entry.{Entry}
@@ -10,6 +10,8 @@ use Rattle.up_map.specs.Unfit.{first_unfit}
 use Rattle.plan_text.specs.Spells.{PlanText}
 use Rattle.up_validate.specs.declared.verdict.Verdict.TheVariants as verdict
 use Rattle.up_answer.specs.declared.answer.Answer.{Answer}
+use Rattle.up_answer.specs.declared.answer.Answer.TheVariants as answer
+use Rattle.up_top.specs.declared.back.Converted.{Converted}
 use Rattle.up_top.specs.declared.command.Command.{Command}
 use Rattle.up_top.specs.declared.command.Command.TheVariants.{Validate, Back}
 use Rattle.up_top.specs.Commands.{HasEngine}
@@ -22,7 +24,7 @@ use Rattle.up_pipeline.specs.declared.engine.Engine.{Engine}
 use Rattle.up_pipeline.specs.Built.{built}
 use Rattle.up_pipeline.specs.Chains.{IsBest, NoneFits}
 use Rattle.up_pipeline.specs.Engine.{engine_of}
-use Rattle.up_top.specs.Steps.{IsOnPlan, StopsChoice, StopsConversion, StopsEngine, StopsFit, StopsMap, StopsPlan, StopsRead, StopsValid}
+use Rattle.up_top.specs.Steps.{IsConvertedFor, IsOnPlan, StopsChoice, StopsConversion, StopsEngine, StopsFit, StopsMap, StopsPlan, StopsRead, StopsValid}
 use Rattle.up_top.specs.Texts.{Texts}
 
 pub read_answers : (command : Command) (t : Texts) (a : Answer) → StopsRead t.domain t.problem a → Answers command t [] a
@@ -102,3 +104,9 @@ chosen_is text parts stages of K says best same = record { engine_is = of; says 
 pub none_is : (text : List ℕ) (parts : Parts) (of : Engine) (K : FeatureSet) → engine_of text ≡ Ok of
     → NoneFits built (has of.features.0) K → K ≡ carries parts → NoChain text parts
 none_is text parts of K says none same = record { engine_is = of; says = says; none = rw same at none }
+
+pub converted_due : (t : Texts) (it : Converted) (text : List ℕ) → text ≡ it.text.items → (is : IsConvertedFor t it)
+    → Due AreReadAs t Back (answer.Judged (verdict.Valid it.metric)) (record { place = 5; text = text } ∷ [])
+converted_due t it text same is =
+    subst (λ written. Due AreReadAs t Back (answer.Judged (verdict.Valid it.metric)) (record { place = 5; text = written } ∷ []))
+    (sym (same ∙ is.written)) (Due.judged Back is.parts is.plan (verdict.Valid it.metric) is.reads is.converted is.valid)

@@ -8,4 +8,4 @@ pub returns-in-Err-plan_of-clause-stops : goal.returns-in-Err-plan_of-clause-sto
 returns-in-Err-plan_of-clause-stops c = plan_stops _ _ _ _ c.in-Ok.ensures.map c.in-Err-plan_of.ensures.stops
 
 pub returns-clause-stops : goal.returns-clause-stops
-returns-clause-stops c = ?
+returns-clause-stops c = fit_stops _ _ _ _ _ c.in-Ok.ensures.map c.in-Ok-plan_of.ensures.plan c.converted_by.ensures.stops
