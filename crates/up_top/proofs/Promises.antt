@@ -141,7 +141,7 @@ module _ {S : Type 0} (held : S → Option Files) (faults misses larges losses :
 
   -- ---- what is held
 
-  held_of : (a : Answer) (put : Result Unit SinkFailed) → Ended held faults misses larges losses words old new a
+  pub held_of : (a : Answer) (put : Result Unit SinkFailed) → Ended held faults misses larges losses words old new a
       → StoreAfter words (held old) (held new) (ended (status_of a) (is_ok put))
   held_of _ put (Ended.misfit none same) = StoreAfter.untouched tt same
   held_of _ put (Ended.fit command _ fits (EndsAs.at_input _ same StopsAtInput.no_memory)) = StoreAfter.untouched tt same

@@ -1,11 +1,15 @@
 -- Reads that follow one another.
-use Rattle.std.proofs.Common.{◌≡◌, ℕ, ◌+◌, ◌≤◌, ◌<◌, ◌∙◌, List, length, Option, None, Some, Result, Ok, Err, refl, sym, arith}
-use Rattle.std.specs.Prelude.{IfSome, IfOk, IfErr, IsErrAnd, IsSomeAnd}
-use Rattle.up_store.specs.Outside.{Files, Rose, NoneFalls}
+use Rattle.std.proofs.Common.{◌≡◌, ℕ, ◌+◌, ◌≤◌, ◌<◌, ◌∙◌, List, length, Option, None, Some, Result, Ok, Err, refl, sym, subst, arith}
+use Rattle.std.specs.Prelude.{IfSome, IsErrAnd, IsSomeAnd, Vec}
+use Rattle.std.specs.declared.alloc.Global.{Global}
+use Rattle.up_store.specs.declared.store.ReadFail.{ReadFail}
+use Rattle.up_store.specs.declared.store.ReadFail.TheVariants as fail
+use Rattle.up_store.specs.Outside.{Files, ReadAnswers, Rose, input_limit}
 use Rattle.up_answer.specs.declared.answer.Stop.{Stop}
 use Rattle.up_answer.specs.declared.answer.Stop.TheVariants as stop
-use Rattle.up_top.specs.Ends.{IsInput, IsMissing, IsTooLarge, Kept, RoseAt, StopsAtInput}
-use Rattle.up_top.specs.Texts.{AreReadable, IsHeld, IsReadable}
+use Rattle.up_top.specs.declared.read.Inputs.{Inputs}
+use Rattle.up_top.specs.Ends.{IsInput, IsMissing, IsTooLarge, Kept, ReadsInput, ReadsInputs, StopsAtInput}
+use Rattle.up_top.specs.Texts.{AreReadable, HoldProblem, IsHeld, IsReadable, Texts}
 use Rattle.up_answer.specs.Places.{word_at}
 
 -- a count that rose behind others rose
@@ -47,3 +51,70 @@ stop_behind held faults misses larges losses words end old mid new _ kept (Stops
     StopsAtInput.fault at input (rose_from _ _ _ (kept.faults_grow (word_at words at)) rose) (rw kept.same at is)
 stop_behind held faults misses larges losses words end old mid new _ kept (StopsAtInput.too_large at input rose is) =
     StopsAtInput.too_large at input (rose_from _ _ _ (kept.larges_grow (word_at words at)) rose) (rw kept.same at is)
+
+pub kept_none : {S : Type 0} (held : S → Option Files) (faults misses larges losses : S → List ℕ → ℕ) (old : S) → Kept held faults misses larges losses old old
+kept_none held faults misses larges losses old = record {
+  same = refl;
+  faults_grow = λ name. omega arith;
+  misses_grow = λ name. omega arith;
+  larges_grow = λ name. omega arith;
+  losses_stay = refl;
+}
+
+-- ---- one read
+
+pub missing_told : (held : Option Files) (words : List (List ℕ)) (at : ℕ) (name : List ℕ) (r : Result (Vec ℕ Global) ReadFail) → name ≡ word_at words at
+    → IfSome held (λ files. ReadAnswers (files name) r) → r ≡ Err fail.Missing → IfSome held (AreReadable words at) → IfSome held (IsMissing words at)
+missing_told None words at name r same answers is before = tt
+missing_told (Some files) words at name r same answers is before = record { none = rw same at (answers.missing is); before = before }
+
+pub large_told : (held : Option Files) (words : List (List ℕ)) (at : ℕ) (name : List ℕ) (r : Result (Vec ℕ Global) ReadFail) → name ≡ word_at words at
+    → IfSome held (λ files. ReadAnswers (files name) r) → r ≡ Err fail.TooLarge → IfSome held (AreReadable words at) → IfSome held (IsTooLarge words at)
+large_told None words at name r same answers is before = tt
+large_told (Some files) words at name r same answers is before = record { large = rw same at (answers.too_large is); before = before }
+
+-- ---- reads that stop
+
+pub first_readable : (words : List (List ℕ)) (held : Option Files) → IfSome held (AreReadable words 1)
+first_readable words None = tt
+first_readable words (Some files) = tt
+
+pub one_readable : (words : List (List ℕ)) (at : ℕ) (text : List ℕ) (files : Files) → IsHeld words at text files → IsReadable words at files
+one_readable words at text files held = subst (λ file. IsSomeAnd file (λ t. length t ≤ input_limit)) (sym held.is) held.small
+
+pub second_readable : (words : List (List ℕ)) (text : List ℕ) (held : Option Files) → IfSome held (IsHeld words 1 text) → IfSome held (AreReadable words 2)
+second_readable words text None is = tt
+second_readable words text (Some files) is = (tt, one_readable words 1 text files is)
+
+pub third_readable : (words : List (List ℕ)) (t : Texts) (held : Option Files) → IfSome held (HoldProblem words t) → IfSome held (AreReadable words 3)
+third_readable words t None is = tt
+third_readable words t (Some files) is = ((tt, one_readable words 1 t.domain files is.domain), one_readable words 2 t.problem files is.problem)
+
+pub fourth_readable : (words : List (List ℕ)) (t : Texts) (text : List ℕ) (held mid : Option Files) → mid ≡ held → IfSome held (HoldProblem words t) → IfSome mid (IsHeld words 3 text)
+    → IfSome held (AreReadable words 4)
+fourth_readable words t text None mid same is third = tt
+fourth_readable words t text (Some files) mid same is third =
+    (((tt, one_readable words 1 t.domain files is.domain), one_readable words 2 t.problem files is.problem),
+    one_readable words 3 text files (let there : IfSome (Some files) (IsHeld words 3 text) = rw same at third in there))
+
+pub reading_stops : {S : Type 0} (held : S → Option Files) (faults misses larges losses : S → List ℕ → ℕ) (words : List (List ℕ)) (end at : ℕ) (Hold : List (List ℕ) → Texts → Files → Type 0) (old mid new : S) (s : Stop) (r : Result Inputs Stop)
+    → Kept held faults misses larges losses old mid → IfSome (held old) (AreReadable words at) → at + 1 ≤ end
+    → ReadsInput held faults misses larges losses words at mid new (Err s) → IsErrAnd r (λ e. e ≡ s)
+    → ReadsInputs held faults misses larges losses words end Hold old new r
+reading_stops held faults misses larges losses words end at Hold old mid new s (Ok it) kept before few reads same = absurd same
+reading_stops held faults misses larges losses words end at Hold old mid new s (Err e) kept before few reads same = record {
+  kept = kept_on held faults misses larges losses old mid new kept reads.kept;
+  texts = tt;
+  stops = rw same (stop_of_more held faults misses larges words (at + 1) end old new s few
+      (stop_behind held faults misses larges losses words (at + 1) old mid new s kept (reads.stops (rw (sym kept.same) at before))));
+}
+
+pub reading_stopped : {S : Type 0} (held : S → Option Files) (faults misses larges losses : S → List ℕ → ℕ) (words : List (List ℕ)) (end more : ℕ) (Hold Other : List (List ℕ) → Texts → Files → Type 0) (old new : S) (s : Stop) (r : Result Inputs Stop)
+    → end ≤ more → ReadsInputs held faults misses larges losses words end Hold old new (Err s) → IsErrAnd r (λ e. e ≡ s)
+    → ReadsInputs held faults misses larges losses words more Other old new r
+reading_stopped held faults misses larges losses words end more Hold Other old new s (Ok it) few reads same = absurd same
+reading_stopped held faults misses larges losses words end more Hold Other old new s (Err e) few reads same = record {
+  kept = reads.kept;
+  texts = tt;
+  stops = rw same (stop_of_more held faults misses larges words end more old new s few reads.stops);
+}

@@ -1,5 +1,6 @@
 -- What the steps of a command make certain of its answer.
-use Rattle.std.proofs.Common.{◌≡◌, ℕ, ◌∙◌, List, [], ◌∷◌, Option, Some, Ok, Err, refl, sym, subst}
+use Rattle.std.proofs.Common.{◌≡◌, ℕ, ◌∙◌, List, [], ◌∷◌, Option, Some, Result, Ok, Err, refl, sym, subst}
+use Rattle.std.specs.Prelude.{IfErr}
 use Rattle.up_tree.specs.declared.problem.Parts.{Parts}
 use Rattle.up_tree.specs.declared.problem.Plan.{Plan}
 use Rattle.up_compiler.specs.declared.back.Entry.{Entry}
@@ -110,3 +111,8 @@ pub converted_due : (t : Texts) (it : Converted) (text : List ℕ) → text ≡ 
 converted_due t it text same is =
     subst (λ written. Due AreReadAs t Back (answer.Judged (verdict.Valid it.metric)) (record { place = 5; text = written } ∷ []))
     (sym (same ∙ is.written)) (Due.judged Back is.parts is.plan (verdict.Valid it.metric) is.reads is.converted is.valid)
+
+pub fit_stops_of : (map plan : List ℕ) (by : Map) (of : Plan) (r : Result Plan Answer) → MapText map by → PlanText plan of → IfErr r (StopsFit by.back of)
+    → IfErr r (StopsConversion map plan)
+fit_stops_of map plan by of (Ok made) spelled_map spelled_plan stops = tt
+fit_stops_of map plan by of (Err a) spelled_map spelled_plan stops = fit_stops map plan by of a spelled_map spelled_plan stops

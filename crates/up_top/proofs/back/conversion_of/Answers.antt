@@ -1,4 +1,4 @@
-use Rattle.up_top.proofs.Steps.{fit_stops, map_stops, plan_stops}
+use Rattle.up_top.proofs.Steps.{fit_stops_of, map_stops, plan_stops}
 use Rattle.up_top.proofs.back.conversion_of.Goals as goal
 
 pub returns-in-Err-clause-stops : goal.returns-in-Err-clause-stops
@@ -8,4 +8,4 @@ pub returns-in-Err-plan_of-clause-stops : goal.returns-in-Err-plan_of-clause-sto
 returns-in-Err-plan_of-clause-stops c = plan_stops _ _ _ _ c.in-Ok.ensures.map c.in-Err-plan_of.ensures.stops
 
 pub returns-clause-stops : goal.returns-clause-stops
-returns-clause-stops c = fit_stops _ _ _ _ _ c.in-Ok.ensures.map c.in-Ok-plan_of.ensures.plan c.converted_by.ensures.stops
+returns-clause-stops c = fit_stops_of _ _ _ _ _ c.in-Ok.ensures.map c.in-Ok-plan_of.ensures.plan c.converted_by.ensures.stops
