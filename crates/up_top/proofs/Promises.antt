@@ -163,3 +163,23 @@ module _ {S : Type 0} (held : S → Option Files) (faults misses larges losses :
           (outcome command t a outputs (status_of a) fits holds due refl) same in
       by_end After (status_of a) put (λ u is. settles) (λ e is other. settles)
       (λ e is done. StoreAfter.wrote (answer_text words a) outputs (outcome command t a outputs Done fits holds due (sym done)) same)
+
+  -- ---- usage
+
+  no_usage : (command : Command) (a : Answer) → EndsAs held faults misses larges losses words command old new a → ¬ (status_of a ≡ Usage)
+  no_usage command _ (EndsAs.at_input _ same StopsAtInput.no_memory) = λ same. cc
+  no_usage command _ (EndsAs.at_input _ same (StopsAtInput.missing at input rose is)) = λ same. cc
+  no_usage command _ (EndsAs.at_input _ same (StopsAtInput.fault at input rose is)) = λ same. cc
+  no_usage command _ (EndsAs.at_input _ same (StopsAtInput.too_large at input rose is)) = λ same. cc
+  no_usage command _ (EndsAs.no_memory same) = λ same. cc
+  no_usage command _ (EndsAs.at_write t a outputs _ holds due done (StopsAtWrite.no_memory some)) = λ same. cc
+  no_usage command _ (EndsAs.at_write t a outputs _ holds due done (StopsAtWrite.failed at rose fails)) = λ same. cc
+  no_usage command _ (EndsAs.answered t a outputs holds due same) =
+      by_settled (λ s os. ¬ (s ≡ Usage)) command (status_of a) outputs (settled AreReadAs t command a outputs due) (λ same. cc)
+      (λ s is. by_refusal (λ s. ¬ (s ≡ Usage)) command s is (λ same. cc) (λ same. cc) (λ h same. cc) (λ h same. cc) (λ h same. cc) (λ h same. cc) (λ h same. cc) (λ h same. cc) (λ h same. cc))
+
+  pub usage_of : (a : Answer) (put : Result Unit SinkFailed) → Ended held faults misses larges losses words old new a
+      → ((ended (status_of a) (is_ok put) ≡ Usage) ↔ (command_of words ≡ None))
+  usage_of _ put (Ended.misfit none same) = (λ is. none, λ is. refl)
+  usage_of _ put (Ended.fit command a fits ends) =
+      (λ is. absurd (by_end (λ s. ¬ (s ≡ Usage)) (status_of a) put (λ u w. no_usage command a ends) (λ e w other. no_usage command a ends) (λ e w done same. cc) is), λ none. absurd (let one = fits in let other = none in cc))
