@@ -156,11 +156,11 @@ module _ {S : Type 0} (held : S → Option Files) (faults misses larges losses :
   held_of _ put (Ended.fit command _ fits (EndsAs.answered t a outputs holds due same)) =
       let After : Status → Type 0 = StoreAfter words (held old) (held new) in
       let settles : After (status_of a) =
-          by_settled (λ s os. Outcome AreReadAs words (held old) s (answer_text words a) os → held new ≡ held_after words os (held old) → After s) command (status_of a) outputs
-          (settled AreReadAs t command a outputs due)
-          (λ is kept. StoreAfter.wrote (answer_text words a) outputs is kept)
-          (λ s is _ kept. by_refusal After command s is (StoreAfter.untouched tt kept) (StoreAfter.untouched tt kept) (λ h. StoreAfter.untouched tt kept) (λ h. StoreAfter.untouched tt kept) (λ h. StoreAfter.untouched tt kept) (λ h. StoreAfter.untouched tt kept) (λ h. StoreAfter.untouched tt kept) (λ h. StoreAfter.untouched tt kept) (λ h. StoreAfter.untouched tt kept))
-          (outcome command t a outputs (status_of a) fits holds due refl) same in
+      by_settled (λ s os. Outcome AreReadAs words (held old) s (answer_text words a) os → held new ≡ held_after words os (held old) → After s) command (status_of a) outputs
+      (settled AreReadAs t command a outputs due)
+      (λ is kept. StoreAfter.wrote (answer_text words a) outputs is kept)
+      (λ s is _ kept. by_refusal After command s is (StoreAfter.untouched tt kept) (StoreAfter.untouched tt kept) (λ h. StoreAfter.untouched tt kept) (λ h. StoreAfter.untouched tt kept) (λ h. StoreAfter.untouched tt kept) (λ h. StoreAfter.untouched tt kept) (λ h. StoreAfter.untouched tt kept) (λ h. StoreAfter.untouched tt kept) (λ h. StoreAfter.untouched tt kept))
+      (outcome command t a outputs (status_of a) fits holds due refl) same in
       by_end After (status_of a) put (λ u is. settles) (λ e is other. settles)
       (λ e is done. StoreAfter.wrote (answer_text words a) outputs (outcome command t a outputs Done fits holds due (sym done)) same)
 

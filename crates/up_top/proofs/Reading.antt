@@ -93,9 +93,10 @@ third_readable words t (Some files) is = ((tt, one_readable words 1 t.domain fil
 pub fourth_readable : (words : List (List ℕ)) (t : Texts) (text : List ℕ) (held mid : Option Files) → mid ≡ held → IfSome held (HoldProblem words t) → IfSome mid (IsHeld words 3 text)
     → IfSome held (AreReadable words 4)
 fourth_readable words t text None mid same is third = tt
-fourth_readable words t text (Some files) mid same is third =
-    (((tt, one_readable words 1 t.domain files is.domain), one_readable words 2 t.problem files is.problem),
-    one_readable words 3 text files (let there : IfSome (Some files) (IsHeld words 3 text) = rw same at third in there))
+fourth_readable words t text (Some files) mid same is third = (
+  ((tt, one_readable words 1 t.domain files is.domain), one_readable words 2 t.problem files is.problem),
+  one_readable words 3 text files (let there : IfSome (Some files) (IsHeld words 3 text) = rw same at third in there),
+)
 
 pub reading_stops : {S : Type 0} (held : S → Option Files) (faults misses larges losses : S → List ℕ → ℕ) (words : List (List ℕ)) (end at : ℕ) (Hold : List (List ℕ) → Texts → Files → Type 0) (old mid new : S) (s : Stop) (r : Result Inputs Stop)
     → Kept held faults misses larges losses old mid → IfSome (held old) (AreReadable words at) → at + 1 ≤ end

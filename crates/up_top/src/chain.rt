@@ -18,9 +18,13 @@ fn engine_in(alloc: Global, text: &[u8]) -> Result<Engine, Answer>
         Ok(engine) => Ok(engine),
         Err(EngineError::Memory) => Err(Answer::Stopped(Stop::Memory)),
         Err(EngineError::Toml) => Err(Answer::Unread(EngineError::Toml)),
-        Err(EngineError::UnknownKey { word }) => Err(Answer::Unread(EngineError::UnknownKey { word })),
+        Err(EngineError::UnknownKey { word }) => Err(Answer::Unread(EngineError::UnknownKey {
+            word,
+        })),
         Err(EngineError::NoKey { word }) => Err(Answer::Unread(EngineError::NoKey { word })),
-        Err(EngineError::WrongType { word }) => Err(Answer::Unread(EngineError::WrongType { word })),
+        Err(EngineError::WrongType { word }) => Err(Answer::Unread(EngineError::WrongType {
+            word,
+        })),
         Err(EngineError::UnknownFeature { word }) => {
             Err(Answer::Unread(EngineError::UnknownFeature { word }))
         }
