@@ -1,3 +1,5 @@
+pub mod Causes
+pub mod Complete
 pub mod Ending
 pub mod Promises
 pub mod Reading

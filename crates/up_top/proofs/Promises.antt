@@ -59,7 +59,7 @@ four_readable words files (suc (suc (suc zero))) all some few = all.0.1
 four_readable words files (suc (suc (suc (suc zero)))) all some few = all.1
 four_readable words files (suc (suc (suc (suc (suc at))))) all some few = absurd (omega arith)
 
-readable_at : (command : Command) (words : List (List ℕ)) (files : Files) (at : ℕ) → AreReadable words (inputs_end command) files → 1 ≤ at → at < inputs_end command
+pub readable_at : (command : Command) (words : List (List ℕ)) (files : Files) (at : ℕ) → AreReadable words (inputs_end command) files → 1 ≤ at → at < inputs_end command
     → IsReadable words at files
 readable_at command.Kind words files at all some few = two_readable words files at all some few
 readable_at command.Pipeline words files at all some few = three_readable words files at all some few
@@ -67,46 +67,46 @@ readable_at (command.Compile limit) words files at all some few = three_readable
 readable_at command.Validate words files at all some few = three_readable words files at all some few
 readable_at command.Back words files at all some few = four_readable words files at all some few
 
-none_is_not_readable : (file : Option (List ℕ)) → file ≡ None → IsSomeAnd file (λ text. length text ≤ input_limit) → ⊥
+pub none_is_not_readable : (file : Option (List ℕ)) → file ≡ None → IsSomeAnd file (λ text. length text ≤ input_limit) → ⊥
 none_is_not_readable None is readable = readable
 none_is_not_readable (Some text) is readable = cc
 
-not_both : (file : Option (List ℕ)) → IsSomeAnd file (λ text. input_limit < length text) → IsSomeAnd file (λ text. length text ≤ input_limit) → ⊥
+pub not_both : (file : Option (List ℕ)) → IsSomeAnd file (λ text. input_limit < length text) → IsSomeAnd file (λ text. length text ≤ input_limit) → ⊥
 not_both None large readable = large
 not_both (Some text) large readable = omega arith
 
-if_told : (Holds Then : Files → Type 0) (held : Option Files) → ((files : Files) → Holds files → Then files) → IfSome held Holds → IfSome held Then
+pub if_told : (Holds Then : Files → Type 0) (held : Option Files) → ((files : Files) → Holds files → Then files) → IfSome held Holds → IfSome held Then
 if_told Holds Then None by is = tt
 if_told Holds Then (Some files) by is = by files is
 
-always_told : (Holds : Files → Type 0) (held : Option Files) → ((files : Files) → Holds files) → IfSome held Holds
+pub always_told : (Holds : Files → Type 0) (held : Option Files) → ((files : Files) → Holds files) → IfSome held Holds
 always_told Holds None by = tt
 always_told Holds (Some files) by = by files
 
 -- ---- puts
 
-put_whole : {K : Type 0} (written : K → Option (List ℕ)) (faults : K → ℕ) (text : List ℕ) (old new : K) (put : Result Unit SinkFailed) (u : Unit) (status : Status)
+pub put_whole : {K : Type 0} (written : K → Option (List ℕ)) (faults : K → ℕ) (text : List ℕ) (old new : K) (put : Result Unit SinkFailed) (u : Unit) (status : Status)
     → Puts written faults text old new put → put ≡ Ok u → ¬ (status ≡ WriteFault None) → IsPut written faults status text old new
 put_whole written faults text old new (Ok done) u status puts is other = IsPut.whole other puts.whole
 put_whole written faults text old new (Err e) u status puts is other = cc
 
-put_cut : {K : Type 0} (written : K → Option (List ℕ)) (faults : K → ℕ) (text : List ℕ) (old new : K) (put : Result Unit SinkFailed) (e : SinkFailed) (status : Status)
+pub put_cut : {K : Type 0} (written : K → Option (List ℕ)) (faults : K → ℕ) (text : List ℕ) (old new : K) (put : Result Unit SinkFailed) (e : SinkFailed) (status : Status)
     → Puts written faults text old new put → put ≡ Err e → ¬ (status ≡ Done) → IsPut written faults status text old new
 put_cut written faults text old new (Ok done) e status puts is other = cc
 put_cut written faults text old new (Err failed) e status puts is other = IsPut.prefix other puts.failed puts.prefix
 
-put_rose : {K : Type 0} (written : K → Option (List ℕ)) (faults : K → ℕ) (text : List ℕ) (old new : K) (put : Result Unit SinkFailed) (e : SinkFailed)
+pub put_rose : {K : Type 0} (written : K → Option (List ℕ)) (faults : K → ℕ) (text : List ℕ) (old new : K) (put : Result Unit SinkFailed) (e : SinkFailed)
     → Puts written faults text old new put → put ≡ Err e → Rose (faults old) (faults new)
 put_rose written faults text old new (Ok done) e puts is = cc
 put_rose written faults text old new (Err failed) e puts is = puts.failed
 
-lost_is_not_done : ¬ (WriteFault None ≡ Done)
+pub lost_is_not_done : ¬ (WriteFault None ≡ Done)
 lost_is_not_done = λ same. cc
 
 module _ {S : Type 0} (held : S → Option Files) (faults misses larges losses : S → List ℕ → ℕ) (words : List (List ℕ)) (old new : S) where
   -- ---- statuses
 
-  no_lost : (a : Answer) → Ended held faults misses larges losses words old new a → ¬ (status_of a ≡ WriteFault None)
+  pub no_lost : (a : Answer) → Ended held faults misses larges losses words old new a → ¬ (status_of a ≡ WriteFault None)
   no_lost _ (Ended.misfit none same) = λ same. cc
   no_lost _ (Ended.fit command _ fits (EndsAs.at_input _ same StopsAtInput.no_memory)) = λ same. cc
   no_lost _ (Ended.fit command _ fits (EndsAs.at_input _ same (StopsAtInput.missing at input rose is))) = λ same. cc
@@ -133,7 +133,7 @@ module _ {S : Type 0} (held : S → Option Files) (faults misses larges losses :
       (λ s is. by_refusal (HasPlace words) command s is tt tt (λ h. tt) (λ h. tt) (λ h. tt) (λ h. tt) (λ h. tt) (λ h. tt) (λ h. tt))
 
   -- the outcome of an answer that is due
-  outcome : (command : Command) (t : Texts) (a : Answer) (outputs : List Output) (status : Status) → command_of words ≡ Some command
+  pub outcome : (command : Command) (t : Texts) (a : Answer) (outputs : List Output) (status : Status) → command_of words ≡ Some command
       → IfSome (held old) (AreHeld words command t) → Due AreReadAs t command a outputs → status ≡ status_of a
       → Outcome AreReadAs words (held old) status (answer_text words a) outputs
   outcome command t a outputs status fits holds due ends =
