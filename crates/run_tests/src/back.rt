@@ -24,7 +24,7 @@ end
 const BEFORE: &str = "before";
 
 // A domain, a problem, a map and a plan; the status and the text; what the output holds after the run.
-const BACKS: [([&str; 4], u8, &str, &str); 19] = [
+const BACKS: [([&str; 4], u8, &str, &str); 10] = [
     (
         [GRIPPER, ROOMS, WRITTEN_MAP, GRIPPER_PLAN],
         0,
@@ -105,6 +105,10 @@ const BACKS: [([&str; 4], u8, &str, &str); 19] = [
         "plan invalid step 1 unknown\n",
         BEFORE,
     ),
+];
+
+// The same of maps that drop steps, and of plans that are refused or not valid.
+const MORE_BACKS: [([&str; 4], u8, &str, &str); 9] = [
     (
         [
             GRIPPER,
@@ -185,6 +189,25 @@ const BACKS: [([&str; 4], u8, &str, &str); 19] = [
 fn carries_plans_back(rt: HostRuntime) {
     let alloc = rt.alloc();
     for (texts, code, text, out) in BACKS {
+        let [domain, problem, map, plan] = texts;
+        let files = [
+            ("d", domain),
+            ("p", problem),
+            ("m", map),
+            ("plan", plan),
+            ("out", BEFORE),
+        ];
+        let outcome = run_line(alloc, "back d p m plan out", &files).expect(&rt, "room");
+        assert_eq!(rt; outcome.sink.bytes(), text.as_bytes());
+        assert_eq!(rt; outcome.code, code);
+        assert!(rt; is_held(&outcome, alloc, "out", Some(out)));
+    }
+}
+
+#[test]
+fn carries_more_plans_back(rt: HostRuntime) {
+    let alloc = rt.alloc();
+    for (texts, code, text, out) in MORE_BACKS {
         let [domain, problem, map, plan] = texts;
         let files = [
             ("d", domain),
